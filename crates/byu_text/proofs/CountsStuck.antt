@@ -8,8 +8,8 @@ use Rattle.std.proofs.lemmas.List.Elements.{recursion_from_All, All-from_recursi
 use Rattle.fku_types.proofs.ListLaws.{all_front, all_rest}
 use Rattle.triangle_meshes.specs.Meshes.{Surface}
 use Rattle.byu_text.specs.Byu.{polygon_line}
-use Rattle.byu_text.specs.Reading.{HasFault}
-use Rattle.byu_text.specs.Pieces.{Counts, size_line, head_line, IsHead, size_lines, point_lines, AreSizes}
+use Rattle.byu_text.specs.Reading.{HasMeshFault}
+use Rattle.byu_text.specs.Pieces.{Counts, size_line, mesh_head_line, AreMeshCounts, size_lines, point_lines, AreSizes}
 use Rattle.byu_text.specs.Stages.{IsSize, NoneOf}
 use Rattle.byu_text.proofs.Written.{polygons_of, head_of, sizes_of, pieces_of, length-size_lines, line_count, length-le-sum}
 use Rattle.byu_text.proofs.Fronts.{StartsAs, starts_whole, fault_from}
@@ -19,11 +19,11 @@ use Rattle.byu_text.proofs.BehindHead.{body_of, Behind, behind_head, some_line, 
 
 -- ---- the counts
 
-pub head_fault : (text : List ℕ) → NoneOf IsHead head_line text → HasFault text 1
+pub head_fault : (text : List ℕ) → NoneOf AreMeshCounts mesh_head_line text → HasMeshFault text 1
 head_fault text excluded =
     let t = starts_none text in
     let none : (s : Surface) → StartsAs text (0 + 1) s → ⊥ =
-    λ s u. excluded (head_of s) u.more (pieces_of s u.mesh).head (u.is ∙ ap (λ (l : List ℕ). l ++ u.more) (append-nil (head_line (head_of s)))) in
+    λ s u. excluded (head_of s) u.more (pieces_of s u.mesh).head (u.is ∙ ap (λ (l : List ℕ). l ++ u.more) (append-nil (mesh_head_line (head_of s)))) in
     fault_from text 0 t.0 t.1 none (λ s r. none s (starts_whole text 1 s (some_line s) r))
 
 -- ---- the sizes
@@ -32,7 +32,7 @@ no_sum : (xs : List ℕ) → length xs ≡ 0 → sum xs ≡ 0
 no_sum [] e = refl
 no_sum (n ∷ ns) e = absurd (omega (arith, e))
 
-size_stuck : (h : Counts) (sizes rest : List ℕ) (s : Surface) → IsHead h → AreSizes h sizes → length sizes < h.parts →
+size_stuck : (h : Counts) (sizes rest : List ℕ) (s : Surface) → AreMeshCounts h → AreSizes h sizes → length sizes < h.parts →
     NoneOf (IsSize (h.polygons - sum sizes) (h.parts - length sizes - 1)) (size_line (1 + sum sizes)) rest → Behind h (concat (size_lines 1 sizes) ++ rest) (suc (length sizes)) s → ⊥
 size_stuck h sizes rest s i a l excluded b =
     let P : ℕ → Type 0 = λ n. 1 ≤ n in
@@ -61,12 +61,12 @@ size_stuck h sizes rest s i a l excluded b =
       all = λ e. (let none : sum r.back ≡ 0 = no_sum r.back (omega (arith, long, count, r.long, e)) in omega (arith, total, sums, front));
     }) (same.1 ∙ ap (λ (n : ℕ). size_line (1 + n) r.item ++ b.more) front)
 
-pub size_fault : (text : List ℕ) (h : Counts) (sizes rest : List ℕ) → IsHead h → AreSizes h sizes → length sizes < h.parts → text ≡ head_line h ++ (concat (size_lines 1 sizes) ++ rest) →
-    NoneOf (IsSize (h.polygons - sum sizes) (h.parts - length sizes - 1)) (size_line (1 + sum sizes)) rest → HasFault text (length sizes + 2)
+pub size_fault : (text : List ℕ) (h : Counts) (sizes rest : List ℕ) → AreMeshCounts h → AreSizes h sizes → length sizes < h.parts → text ≡ mesh_head_line h ++ (concat (size_lines 1 sizes) ++ rest) →
+    NoneOf (IsSize (h.polygons - sum sizes) (h.parts - length sizes - 1)) (size_line (1 + sum sizes)) rest → HasMeshFault text (length sizes + 2)
 unfolding line_count
 size_fault text h sizes rest i a l e excluded =
     let t = starts_sizes text h sizes rest i a e in
     let n : ℕ = suc (length sizes) in
     let none : (s : Surface) → StartsAs text (n + 1) s → ⊥ =
     λ s u. size_stuck h sizes rest s i a l excluded (behind_head text h (concat (size_lines 1 sizes) ++ rest) n s i e (subst (λ (k : ℕ). StartsAs text k s) (add-one n) u)) in
-    subst (HasFault text) (let k : n + 1 ≡ length sizes + 2 = omega arith in k) (fault_from text n t.0 t.1 none (unread_by text h (concat (size_lines 1 sizes) ++ rest) n i e (omega arith) none))
+    subst (HasMeshFault text) (let k : n + 1 ≡ length sizes + 2 = omega arith in k) (fault_from text n t.0 t.1 none (unread_by text h (concat (size_lines 1 sizes) ++ rest) n i e (omega arith) none))

@@ -9,7 +9,7 @@ use Rattle.std.proofs.lemmas.List.Elements.{All-head, All-tail, All-replicate, r
 use Rattle.fku_types.specs.declared.points.Point.{Point}
 use Rattle.fku_types.specs.Points.{IsCoordinate, IsInRange}
 use Rattle.fku_types.proofs.ListLaws.{all_join, all_front, all_rest}
-use Rattle.byu_text.specs.Fields.{FitsField, number_field, sign, coordinate_field, point_fields, number_line, point_line}
+use Rattle.byu_text.specs.Fields.{FitsField, number_field, sign_byte, coordinate_field, point_fields, number_line, coordinates_line}
 use Rattle.byu_text.proofs.FieldLaws.{pos_below, negsuc_below, number_columns, number_one, coordinate_columns, coordinate_one, digits_few}
 use Rattle.byu_text.proofs.Cancel.{split_same}
 use Rattle.byu_text.proofs.TextLines.{IsBare, IsLine, IsOther}
@@ -29,7 +29,7 @@ bare_signed (negsuc n) h = (λ e. absurd (omega (arith, e)), bare_decimal (suc n
 bare_number : (z : ℤ) → FitsField z → IsBare (number_field z)
 bare_number z h = all_join IsOther (replicate (8 - length (signed_decimal z)) 32) (signed_decimal z) (bare-replicate (8 - length (signed_decimal z)) 32 (λ e. absurd (omega (arith, e)))) (bare_signed z h)
 
-bare_sign : (z : ℤ) → sign z ≡ 10 → ⊥
+bare_sign : (z : ℤ) → sign_byte z ≡ 10 → ⊥
 bare_sign (pos n) e = absurd (omega (arith, e))
 bare_sign (negsuc n) e = absurd (omega (arith, e))
 
@@ -63,7 +63,7 @@ bare_points (p ∷ ps) a = all_join IsOther (point_fields p) (flat_map point_fie
 pub number_line_is : (zs : List ℤ) → All FitsField zs → IsLine (number_line zs)
 number_line_is zs a = record { body = flat_map number_field zs; bare = bare_numbers zs a; is = refl }
 
-pub point_line_is : (ps : List Point) → All IsInRange ps → IsLine (point_line ps)
+pub point_line_is : (ps : List Point) → All IsInRange ps → IsLine (coordinates_line ps)
 point_line_is ps a = record { body = flat_map point_fields ps; bare = bare_points ps a; is = refl }
 
 -- ---- widths
@@ -82,7 +82,7 @@ points_width : (ps : List Point) → All IsInRange ps → length (flat_map point
 points_width [] a = refl
 points_width (p ∷ ps) a = omega (arith, length-append (point_fields p) (flat_map point_fields ps), point_width p (All-head IsInRange p ps a), points_width ps (All-tail IsInRange p ps a))
 
-pub point_line_width : (ps : List Point) → All IsInRange ps → length (point_line ps) ≡ 36 * length ps + 1
+pub point_line_width : (ps : List Point) → All IsInRange ps → length (coordinates_line ps) ≡ 36 * length ps + 1
 point_line_width ps a = omega (arith, length-append (flat_map point_fields ps) (10 ∷ []), points_width ps a)
 
 -- ---- one text for each
@@ -119,5 +119,5 @@ points_one (p ∷ ps) (q ∷ qs) a b l e =
     let parts = split_same (point_fields p) (point_fields q) (flat_map point_fields ps) (flat_map point_fields qs) (point_width p hp ∙ sym (point_width q hq)) e in
     ap₂ (λ (h : Point) (t : List Point). h ∷ t) (point_one p q hp hq parts.0) (points_one ps qs (All-tail IsInRange p ps a) (All-tail IsInRange q qs b) (omega (arith, l)) parts.1)
 
-pub point_line_one : (ps qs : List Point) → All IsInRange ps → All IsInRange qs → length ps ≡ length qs → point_line ps ≡ point_line qs → ps ≡ qs
+pub point_line_one : (ps qs : List Point) → All IsInRange ps → All IsInRange qs → length ps ≡ length qs → coordinates_line ps ≡ coordinates_line qs → ps ≡ qs
 point_line_one ps qs a b l e = points_one ps qs a b l (append_cancel_right (flat_map point_fields ps) (flat_map point_fields qs) (10 ∷ []) e)

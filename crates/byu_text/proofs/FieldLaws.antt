@@ -9,7 +9,7 @@ use Rattle.std.proofs.lemmas.Bool.{ne_eqb, cases_lt, cond-false, ltb-true}
 use Rattle.std.proofs.lemmas.Fmt.{decimal_digit, length-decimal-le, decimal_nonempty, decimal_injective, signed_decimal_injective, first_decimal}
 use Rattle.fku_types.specs.Points.{IsCoordinate}
 use lib.Signed.{mag, lt_z}
-use Rattle.byu_text.specs.Fields.{FitsField, number_field, sign, six_digits, IsFilled, coordinate_field}
+use Rattle.byu_text.specs.Fields.{FitsField, number_field, sign_byte, six_digits, IsFilled, coordinate_field}
 
 -- ---- numbers in 8 columns
 
@@ -113,7 +113,7 @@ length-written s (d ∷ others) some few =
     omega (arith, ap length (written_is s d others (omega arith)), length-behind others (omega arith))
 
 pub coordinate_columns : (z : ℤ) → IsCoordinate z → length (coordinate_field z) ≡ 12
-coordinate_columns z h = length-written (sign z) (decimal (unsigned_abs z)) (digits_some z h) (digits_few z h)
+coordinate_columns z h = length-written (sign_byte z) (decimal (unsigned_abs z)) (digits_some z h) (digits_few z h)
 
 pub power_read : (others : List ℕ) → length others ≤ 5 → get_or (behind (length others) others) 8 0 ≡ 48 + length others
 power_read others l =
@@ -136,7 +136,7 @@ digits_in-written s (d ∷ others) some few =
     ∙ ap (λ (n : ℕ). d ∷ take n (behind (length others) others)) k
     ∙ ap (λ (text : List ℕ). d ∷ text) (take-append_seam others (replicate (5 - length others) 48 ++ (69 ∷ 43 ∷ 48 ∷ (48 + length others) ∷ [])))
 
-one_number : (y z : ℤ) → unsigned_abs y ≡ unsigned_abs z → sign y ≡ sign z → y ≡ z
+one_number : (y z : ℤ) → unsigned_abs y ≡ unsigned_abs z → sign_byte y ≡ sign_byte z → y ≡ z
 one_number (pos m) (pos n) a s = ap pos a
 one_number (pos m) (negsuc n) a s = absurd (omega (arith, s))
 one_number (negsuc m) (pos n) a s = absurd (omega (arith, s))
@@ -144,7 +144,7 @@ one_number (negsuc m) (negsuc n) a s = ap negsuc (omega (arith, a))
 
 pub coordinate_one : (y z : ℤ) → IsCoordinate y → IsCoordinate z → coordinate_field y ≡ coordinate_field z → y ≡ z
 coordinate_one y z g h e =
-    let told = sym (digits_in-written (sign y) (decimal (unsigned_abs y)) (digits_some y g) (digits_few y g)) ∙ ap digits_in e ∙ digits_in-written (sign z) (decimal (unsigned_abs z)) (digits_some z h) (digits_few z h) in
+    let told = sym (digits_in-written (sign_byte y) (decimal (unsigned_abs y)) (digits_some y g) (digits_few y g)) ∙ ap digits_in e ∙ digits_in-written (sign_byte z) (decimal (unsigned_abs z)) (digits_some z h) (digits_few z h) in
     one_number y z (decimal_injective (unsigned_abs y) (unsigned_abs z) (omega arith) (omega arith) told) (ap (λ (field : List ℕ). get_or field 0 0) e)
 
 -- ---- fields put together from pieces
@@ -172,7 +172,7 @@ negative (negsuc n) field start e before digits long some =
     (omega arith)
 
 -- the columns of a coordinate, from its digits with zeros after them
-pub coordinate_made : (z : ℤ) (s k six : ℕ) → s ≡ sign z → k ≤ 5 → IsFilled (unsigned_abs z) k six →
+pub coordinate_made : (z : ℤ) (s k six : ℕ) → s ≡ sign_byte z → k ≤ 5 → IsFilled (unsigned_abs z) k six →
     s ∷ (take 1 (six_digits six) ++ (46 ∷ (drop 1 (six_digits six) ++ (69 ∷ 43 ∷ 48 ∷ (48 + k) ∷ [])))) ≡ coordinate_field z
 coordinate_made z s k six sg few filled =
     let digits : List ℕ = decimal (unsigned_abs z) in
@@ -183,7 +183,7 @@ coordinate_made z s k six sg few filled =
     ap₂ (λ (f o : List ℕ). s ∷ (f ++ (46 ∷ (o ++ last)))) (ap (take 1) filled.digits ∙ take-append-le 1 digits zeros some) (ap (drop 1) filled.digits ∙ drop-append-le 1 digits zeros some)
     ∙ ap (λ (l : List ℕ). s ∷ (take 1 digits ++ (46 ∷ l))) (append_assoc (drop 1 digits) zeros last)
     ∙ ap₂ (λ (c : ℕ) (text : List ℕ). c ∷ (take 1 digits ++ (46 ∷ (drop 1 digits ++ (zeros ++ (69 ∷ 43 ∷ 48 ∷ text)))))) sg (sym (decimal_digit k (omega arith)))
-    ∙ ap (λ (n : ℕ). sign z ∷ (take 1 digits ++ (46 ∷ (drop 1 digits ++ (replicate (5 - n) 48 ++ (69 ∷ 43 ∷ 48 ∷ decimal n)))))) ke
+    ∙ ap (λ (n : ℕ). sign_byte z ∷ (take 1 digits ++ (46 ∷ (drop 1 digits ++ (replicate (5 - n) 48 ++ (69 ∷ 43 ∷ 48 ∷ decimal n)))))) ke
 
 -- a coordinate passed to a call is itself
 pub passed : (z : ℤ) → IsCoordinate z → to_z w32 (of_z w32 z) ≡ z

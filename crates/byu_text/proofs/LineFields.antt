@@ -10,7 +10,7 @@ use Rattle.byu_text.specs.Fields.{FitsField, number_field, coordinate_field, poi
 use Rattle.byu_text.specs.Byu.{vertex_numbers}
 use Rattle.byu_text.proofs.FieldLaws.{fits_pos, fits_negsuc, number_columns, number_one, coordinate_columns}
 use Rattle.byu_text.proofs.Cancel.{split_same}
-use Rattle.byu_text.specs.Pieces.{Counts, IsHead, IsTriangle}
+use Rattle.byu_text.specs.Pieces.{Counts, AreMeshCounts, IsKnownTriangle}
 use Rattle.byu_text.proofs.FieldBytes.{point_width}
 use Rattle.byu_text.proofs.LineForms.{triangle_small, three}
 
@@ -78,7 +78,7 @@ pub record TellsTriangle (h : Counts) (t line : List ℕ) : Type 0 where
   pub b : take 8 (drop 8 line) ≡ number_field (pos (second + 1))
   pub c : take 8 (drop 16 line) ≡ number_field (negsuc third)
 
-pub triangle_told : (h : Counts) (t line : List ℕ) → IsHead h → IsTriangle h t → line ≡ flat_map number_field (vertex_numbers t) → TellsTriangle h t line
+pub triangle_told : (h : Counts) (t line : List ℕ) → AreMeshCounts h → IsKnownTriangle h t → line ≡ flat_map number_field (vertex_numbers t) → TellsTriangle h t line
 triangle_told h t line i k e =
     let x = three t k.0 in
     let ids : List ℕ = x.first ∷ x.second ∷ x.third ∷ [] in

@@ -5,7 +5,7 @@ use Rattle.fku_types.specs.declared.limits.TheConstants.{MAX_MESH_VERTICES}
 use Rattle.byu_text.specs.Byu.{vertex_numbers, polygon_line}
 use Rattle.byu_text.specs.Fields.{FitsField}
 use Rattle.byu_text.proofs.FieldLaws.{fits_pos, fits_negsuc}
-use Rattle.byu_text.specs.Pieces.{Counts, head_line, IsHead, IsTriangle, size_line}
+use Rattle.byu_text.specs.Pieces.{Counts, mesh_head_line, AreMeshCounts, IsKnownTriangle, size_line}
 use Rattle.byu_text.proofs.TextLines.{IsLine}
 use Rattle.byu_text.proofs.FieldBytes.{number_line_is, number_line_width, number_line_one}
 
@@ -14,7 +14,7 @@ use Rattle.byu_text.proofs.FieldBytes.{number_line_is, number_line_width, number
 abbrev pub head_numbers : Counts → List ℤ
 head_numbers h = pos h.parts ∷ pos h.vertices ∷ pos h.polygons ∷ pos (3 * h.polygons) ∷ []
 
-pub head_small : (h : Counts) → IsHead h → All FitsField (head_numbers h)
+pub head_small : (h : Counts) → AreMeshCounts h → All FitsField (head_numbers h)
 head_small h i =
     let few = i.few_parts in
     let vertices = i.few_vertices in
@@ -24,10 +24,10 @@ head_small h i =
     (All-cons FitsField (pos h.polygons) (pos (3 * h.polygons) ∷ []) (fits_pos h.polygons (omega arith))
     (All-cons FitsField (pos (3 * h.polygons)) [] (fits_pos (3 * h.polygons) (omega arith)) (All-nil FitsField))))
 
-pub head_is : (h : Counts) → IsHead h → IsLine (head_line h)
+pub head_is : (h : Counts) → AreMeshCounts h → IsLine (mesh_head_line h)
 head_is h i = number_line_is (head_numbers h) (head_small h i)
 
-pub head_width : (h : Counts) → IsHead h → length (head_line h) ≡ 33
+pub head_width : (h : Counts) → AreMeshCounts h → length (mesh_head_line h) ≡ 33
 head_width h i = number_line_width (head_numbers h) (head_small h i)
 
 counts_same : (h g : Counts) → h.parts ≡ g.parts → h.vertices ≡ g.vertices → h.polygons ≡ g.polygons → h ≡ g
@@ -37,7 +37,7 @@ counts_same h g p v t =
 numbers_same : (a b c d x y z w : ℕ) → ◌≡◌ {A = List ℤ} (pos a ∷ pos b ∷ pos c ∷ pos d ∷ []) (pos x ∷ pos y ∷ pos z ∷ pos w ∷ []) → (a ≡ x) × (b ≡ y) × (c ≡ z)
 numbers_same a b c d x y z w e = (cc, cc, cc)
 
-pub head_one : (h g : Counts) → IsHead h → IsHead g → head_line h ≡ head_line g → h ≡ g
+pub head_one : (h g : Counts) → AreMeshCounts h → AreMeshCounts g → mesh_head_line h ≡ mesh_head_line g → h ≡ g
 head_one h g i j e =
     let r = numbers_same h.parts h.vertices h.polygons (3 * h.polygons) g.parts g.vertices g.polygons (3 * g.polygons) (number_line_one (head_numbers h) (head_numbers g) (head_small h i) (head_small g j) refl e) in
     counts_same h g r.0 r.1 r.2
@@ -78,7 +78,7 @@ three (a ∷ b ∷ []) e = absurd (omega (arith, e))
 three (a ∷ b ∷ c ∷ []) e = record { first = a; second = b; third = c; is = refl }
 three (a ∷ b ∷ c ∷ d ∷ t) e = absurd (omega (arith, e))
 
-pub triangle_small : (h : Counts) (t : List ℕ) → IsHead h → IsTriangle h t → All FitsField (vertex_numbers t)
+pub triangle_small : (h : Counts) (t : List ℕ) → AreMeshCounts h → IsKnownTriangle h t → All FitsField (vertex_numbers t)
 triangle_small h t i k =
     let r = three t (k.0) in
     let few = i.few_vertices in
@@ -93,10 +93,10 @@ length-numbers [] = refl
 length-numbers (a ∷ []) = refl
 length-numbers (a ∷ b ∷ t) = ap suc (length-numbers (b ∷ t))
 
-pub triangle_is : (h : Counts) (t : List ℕ) → IsHead h → IsTriangle h t → IsLine (polygon_line t)
+pub triangle_is : (h : Counts) (t : List ℕ) → AreMeshCounts h → IsKnownTriangle h t → IsLine (polygon_line t)
 triangle_is h t i k = number_line_is (vertex_numbers t) (triangle_small h t i k)
 
-pub triangle_width : (h : Counts) (t : List ℕ) → IsHead h → IsTriangle h t → length (polygon_line t) ≡ 25
+pub triangle_width : (h : Counts) (t : List ℕ) → AreMeshCounts h → IsKnownTriangle h t → length (polygon_line t) ≡ 25
 triangle_width h t i k = omega (arith, number_line_width (vertex_numbers t) (triangle_small h t i k), length-numbers t, k.0)
 
 numbers_one : (s t : List ℕ) → length s ≡ length t → vertex_numbers s ≡ vertex_numbers t → s ≡ t
@@ -112,7 +112,7 @@ numbers_one (a ∷ c ∷ s) (b ∷ d ∷ t) l e =
     let rest : vertex_numbers (c ∷ s) ≡ vertex_numbers (d ∷ t) = cc in
     ap₂ (λ (x : ℕ) (xs : List ℕ). x ∷ xs) same (numbers_one (c ∷ s) (d ∷ t) (omega (arith, l)) rest)
 
-pub triangle_one : (h : Counts) (s t : List ℕ) → IsHead h → IsTriangle h s → IsTriangle h t → polygon_line s ≡ polygon_line t → s ≡ t
+pub triangle_one : (h : Counts) (s t : List ℕ) → AreMeshCounts h → IsKnownTriangle h s → IsKnownTriangle h t → polygon_line s ≡ polygon_line t → s ≡ t
 triangle_one h s t i j k e =
     let l : length s ≡ length t = omega (arith, j.0, k.0) in
     numbers_one s t l (number_line_one (vertex_numbers s) (vertex_numbers t) (triangle_small h s i j) (triangle_small h t i k) (length-numbers s ∙ l ∙ sym (length-numbers t)) e)

@@ -8,7 +8,7 @@ use Rattle.std.proofs.lemmas.List.Elements.{All-nil, All-cons, All-head, All-tai
 use Rattle.fku_types.specs.declared.points.Point.{Point}
 use Rattle.triangle_meshes.specs.Meshes.{Surface}
 use Rattle.byu_text.specs.Reading.{IsMesh}
-use Rattle.byu_text.specs.Pieces.{Counts, IsTriangle}
+use Rattle.byu_text.specs.Pieces.{Counts, IsKnownTriangle}
 use Rattle.byu_text.specs.Stages.{parts_in}
 use Rattle.byu_text.proofs.Written.{polygons_of, head_of, lines_with, surface_lines, HasPieces}
 
@@ -51,7 +51,7 @@ made_is h sizes points triangles p =
     let i = p.head in
     let parts = length-parts_in sizes triangles ∙ p.parts in
     let fit : sum sizes ≤ length triangles = omega (arith, p.sum, p.polygons) in
-    let known = all_in (IsTriangle h) sizes triangles p.known in
+    let known = all_in (IsKnownTriangle h) sizes triangles p.known in
     record {
       valid = record {
         some_vertex = omega (arith, i.some_vertex, p.vertices);

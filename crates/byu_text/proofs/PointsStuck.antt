@@ -8,10 +8,10 @@ use Rattle.std.proofs.lemmas.List.Folds.{concat-append}
 use Rattle.fku_types.specs.declared.points.Point.{Point}
 use Rattle.fku_types.specs.Points.{IsInRange}
 use Rattle.triangle_meshes.specs.Meshes.{Surface}
-use Rattle.byu_text.specs.Fields.{point_line}
+use Rattle.byu_text.specs.Fields.{coordinates_line}
 use Rattle.byu_text.specs.Byu.{polygon_line}
-use Rattle.byu_text.specs.Reading.{HasFault}
-use Rattle.byu_text.specs.Pieces.{Counts, head_line, IsHead, size_lines, point_lines, AreSizes, ArePoints}
+use Rattle.byu_text.specs.Reading.{HasMeshFault}
+use Rattle.byu_text.specs.Pieces.{Counts, mesh_head_line, AreMeshCounts, size_lines, point_lines, AreSizes, ArePoints}
 use Rattle.byu_text.specs.Stages.{AreNext, NoneOf}
 use Rattle.byu_text.proofs.Cancel.{split_same}
 use Rattle.byu_text.proofs.Written.{polygons_of, sizes_of, pieces_of, length-size_lines, length-point_lines, line_count}
@@ -26,15 +26,15 @@ record NextPoints (points : List Point) (count : ℕ) : Type 0 where
   behind : List Point
   range : All IsInRange next
   long : length next ≡ count
-  is : point_lines points ≡ point_line next ∷ point_lines behind
+  is : point_lines points ≡ coordinates_line next ∷ point_lines behind
 
 next_points : (points : List Point) (count : ℕ) → All IsInRange points → 0 < length points → count ≡ min 2 (length points) → NextPoints points count
 next_points [] count a l e = absurd (omega arith)
 next_points (p ∷ []) count a l e = record { next = p ∷ []; behind = []; range = a; long = sym e; is = refl }
 next_points (p ∷ q ∷ ps) count a l e = record { next = p ∷ q ∷ []; behind = ps; range = All-take IsInRange 2 (p ∷ q ∷ ps) a; long = omega (arith, e); is = refl }
 
-points_stuck : (h : Counts) (sizes : List ℕ) (points : List Point) (rest : List ℕ) (j : ℕ) (s : Surface) → IsHead h → AreSizes h sizes → length sizes ≡ h.parts → ArePoints h points → length points ≡ 2 * j → 2 * j < h.vertices →
-    NoneOf (AreNext (min 2 (h.vertices - 2 * j))) point_line rest → Behind h (concat (size_lines 1 sizes) ++ (concat (point_lines points) ++ rest)) (suc (h.parts + j)) s → ⊥
+points_stuck : (h : Counts) (sizes : List ℕ) (points : List Point) (rest : List ℕ) (j : ℕ) (s : Surface) → AreMeshCounts h → AreSizes h sizes → length sizes ≡ h.parts → ArePoints h points → length points ≡ 2 * j → 2 * j < h.vertices →
+    NoneOf (AreNext (min 2 (h.vertices - 2 * j))) coordinates_line rest → Behind h (concat (size_lines 1 sizes) ++ (concat (point_lines points) ++ rest)) (suc (h.parts + j)) s → ⊥
 points_stuck h sizes points rest j s i a all c even l excluded b =
     let p = pieces_of s b.mesh in
     let parts : length (sizes_of s) ≡ h.parts = p.parts ∙ ap (λ (g : Counts). g.parts) b.head in
@@ -46,7 +46,7 @@ points_stuck h sizes points rest j s i a all c even l excluded b =
     let long : length front ≡ 2 * j = omega (arith, length-take (2 * j) s.vertices) in
     let left : length back ≡ h.vertices - 2 * j = omega (arith, length-drop (2 * j) s.vertices) in
     let r = next_points back (min 2 (h.vertices - 2 * j)) (All-drop IsInRange (2 * j) s.vertices p.range) (omega arith) (ap (min 2) (sym left)) in
-    let line : List ℕ = point_line r.next in
+    let line : List ℕ = coordinates_line r.next in
     let others : List (List ℕ) = map polygon_line (polygons_of s) in
     let done : List (List ℕ) = size_lines 1 (sizes_of s) ++ point_lines front in
     let after : List (List ℕ) = point_lines r.behind ++ others in
@@ -68,8 +68,8 @@ points_stuck h sizes points rest j s i a all c even l excluded b =
     regroup : (a b c d : List ℕ) → ((a ++ b) ++ c) ++ d ≡ a ++ (b ++ (c ++ d))
     regroup a b c d = simp append_assoc
 
-pub points_fault : (text : List ℕ) (h : Counts) (sizes : List ℕ) (points : List Point) (rest : List ℕ) (j : ℕ) → IsHead h → AreSizes h sizes → length sizes ≡ h.parts → ArePoints h points → length points ≡ 2 * j → 2 * j < h.vertices →
-    text ≡ head_line h ++ (concat (size_lines 1 sizes) ++ (concat (point_lines points) ++ rest)) → NoneOf (AreNext (min 2 (h.vertices - 2 * j))) point_line rest → HasFault text (2 + h.parts + j)
+pub points_fault : (text : List ℕ) (h : Counts) (sizes : List ℕ) (points : List Point) (rest : List ℕ) (j : ℕ) → AreMeshCounts h → AreSizes h sizes → length sizes ≡ h.parts → ArePoints h points → length points ≡ 2 * j → 2 * j < h.vertices →
+    text ≡ mesh_head_line h ++ (concat (size_lines 1 sizes) ++ (concat (point_lines points) ++ rest)) → NoneOf (AreNext (min 2 (h.vertices - 2 * j))) coordinates_line rest → HasMeshFault text (2 + h.parts + j)
 unfolding line_count
 points_fault text h sizes points rest j i a all c even l e excluded =
     let behind : List ℕ = concat (size_lines 1 sizes) ++ (concat (point_lines points) ++ rest) in
@@ -77,4 +77,4 @@ points_fault text h sizes points rest j i a all c even l e excluded =
     let n : ℕ = suc (h.parts + j) in
     let none : (s : Surface) → StartsAs text (n + 1) s → ⊥ =
     λ s u. points_stuck h sizes points rest j s i a all c even l excluded (behind_head text h behind n s i e (subst (λ (k : ℕ). StartsAs text k s) (add-one n) u)) in
-    subst (HasFault text) (let k : n + 1 ≡ 2 + h.parts + j = omega arith in k) (fault_from text n t.0 t.1 none (unread_by text h behind n i e (omega arith) none))
+    subst (HasMeshFault text) (let k : n + 1 ≡ 2 + h.parts + j = omega arith in k) (fault_from text n t.0 t.1 none (unread_by text h behind n i e (omega arith) none))

@@ -9,8 +9,8 @@ use Rattle.fku_types.specs.declared.points.Point.{Point}
 use Rattle.fku_types.proofs.ListLaws.{all_front, all_amid}
 use Rattle.triangle_meshes.specs.Meshes.{Surface}
 use Rattle.byu_text.specs.Byu.{polygon_line}
-use Rattle.byu_text.specs.Reading.{ReadsAs, HasFault}
-use Rattle.byu_text.specs.Pieces.{Counts, head_line, IsHead, size_lines, point_lines, AreSizes, ArePoints, AreTriangles, IsTriangle}
+use Rattle.byu_text.specs.Reading.{ReadsAsMesh, HasMeshFault}
+use Rattle.byu_text.specs.Pieces.{Counts, mesh_head_line, AreMeshCounts, size_lines, point_lines, AreSizes, ArePoints, AreTriangles, IsKnownTriangle}
 use Rattle.byu_text.specs.Stages.{NoneOf}
 use Rattle.byu_text.proofs.Cancel.{split_same}
 use Rattle.byu_text.proofs.LineForms.{head_width}
@@ -22,19 +22,19 @@ use Rattle.byu_text.proofs.BehindHead.{body_of, Behind, behind_head, some_line, 
 
 -- ---- the polygons
 
-triangle_stuck : (h : Counts) (sizes : List ℕ) (points : List Point) (triangles : List (List ℕ)) (rest : List ℕ) (s : Surface) → IsHead h → AreSizes h sizes → length sizes ≡ h.parts → ArePoints h points → length points ≡ h.vertices → AreTriangles h triangles → length triangles < h.polygons →
-    NoneOf (IsTriangle h) polygon_line rest → Behind h (concat (size_lines 1 sizes) ++ (concat (point_lines points) ++ (concat (map polygon_line triangles) ++ rest))) (suc (h.parts + ((h.vertices + 1) / 2 + length triangles))) s → ⊥
+triangle_stuck : (h : Counts) (sizes : List ℕ) (points : List Point) (triangles : List (List ℕ)) (rest : List ℕ) (s : Surface) → AreMeshCounts h → AreSizes h sizes → length sizes ≡ h.parts → ArePoints h points → length points ≡ h.vertices → AreTriangles h triangles → length triangles < h.polygons →
+    NoneOf (IsKnownTriangle h) polygon_line rest → Behind h (concat (size_lines 1 sizes) ++ (concat (point_lines points) ++ (concat (map polygon_line triangles) ++ rest))) (suc (h.parts + ((h.vertices + 1) / 2 + length triangles))) s → ⊥
 triangle_stuck h sizes points triangles rest s i a all c every d l excluded b =
     let p = pieces_of s b.mesh in
     let parts : length (sizes_of s) ≡ h.parts = p.parts ∙ ap (λ (g : Counts). g.parts) b.head in
     let total : sum (sizes_of s) ≡ h.polygons = p.sum ∙ ap (λ (g : Counts). g.polygons) b.head in
     let vertices : length s.vertices ≡ h.vertices = ap (λ (g : Counts). g.vertices) b.head in
     let polygons : length (polygons_of s) ≡ h.polygons = p.polygons ∙ ap (λ (g : Counts). g.polygons) b.head in
-    let known : All (IsTriangle h) (polygons_of s) = subst (λ (g : Counts). All (IsTriangle g) (polygons_of s)) b.head p.known in
+    let known : All (IsKnownTriangle h) (polygons_of s) = subst (λ (g : Counts). All (IsKnownTriangle g) (polygons_of s)) b.head p.known in
     let few = i.few_polygons in
     let r = parted (polygons_of s) (length triangles) (omega (arith, polygons)) in
-    let known' : AllByRecursion (IsTriangle h) (r.front ++ (r.item ∷ r.back)) = subst (AllByRecursion (IsTriangle h)) r.is (recursion_from_All (IsTriangle h) (polygons_of s) known) in
-    let front_known : All (IsTriangle h) r.front = All-from_recursion (IsTriangle h) r.front (all_front (IsTriangle h) r.front (r.item ∷ r.back) known') in
+    let known' : AllByRecursion (IsKnownTriangle h) (r.front ++ (r.item ∷ r.back)) = subst (AllByRecursion (IsKnownTriangle h)) r.is (recursion_from_All (IsKnownTriangle h) (polygons_of s) known) in
+    let front_known : All (IsKnownTriangle h) r.front = All-from_recursion (IsKnownTriangle h) r.front (all_front (IsKnownTriangle h) r.front (r.item ∷ r.back) known') in
     let line : List ℕ = polygon_line r.item in
     let after : List (List ℕ) = map polygon_line r.back in
     let S : List (List ℕ) = size_lines 1 (sizes_of s) in
@@ -55,7 +55,7 @@ triangle_stuck h sizes points triangles rest s i a all c every d l excluded b =
     (omega (arith, points_width points c.range, points_width s.vertices p.range, every, vertices)) first.1 in
     let third = split_same (concat (map polygon_line triangles)) C rest (line ++ b.more)
     (omega (arith, triangles_width h i triangles d.known, triangles_width h i r.front front_known, r.long)) second.1 in
-    excluded r.item b.more (all_amid (IsTriangle h) r.front r.item r.back known') third.1
+    excluded r.item b.more (all_amid (IsKnownTriangle h) r.front r.item r.back known') third.1
   where
     regroup : (a b c d e : List ℕ) → ((a ++ (b ++ c)) ++ d) ++ e ≡ a ++ (b ++ (c ++ (d ++ e)))
     regroup a b c d e = simp append_assoc
@@ -63,8 +63,8 @@ triangle_stuck h sizes points triangles rest s i a all c every d l excluded b =
     relist : (a b c d : List (List ℕ)) → a ++ (b ++ (c ++ d)) ≡ (a ++ (b ++ c)) ++ d
     relist a b c d = simp append_assoc
 
-pub triangle_fault : (text : List ℕ) (h : Counts) (sizes : List ℕ) (points : List Point) (triangles : List (List ℕ)) (rest : List ℕ) → IsHead h → AreSizes h sizes → length sizes ≡ h.parts → ArePoints h points → length points ≡ h.vertices → AreTriangles h triangles → length triangles < h.polygons →
-    text ≡ head_line h ++ (concat (size_lines 1 sizes) ++ (concat (point_lines points) ++ (concat (map polygon_line triangles) ++ rest))) → NoneOf (IsTriangle h) polygon_line rest → HasFault text (2 + h.parts + (h.vertices + 1) / 2 + length triangles)
+pub triangle_fault : (text : List ℕ) (h : Counts) (sizes : List ℕ) (points : List Point) (triangles : List (List ℕ)) (rest : List ℕ) → AreMeshCounts h → AreSizes h sizes → length sizes ≡ h.parts → ArePoints h points → length points ≡ h.vertices → AreTriangles h triangles → length triangles < h.polygons →
+    text ≡ mesh_head_line h ++ (concat (size_lines 1 sizes) ++ (concat (point_lines points) ++ (concat (map polygon_line triangles) ++ rest))) → NoneOf (IsKnownTriangle h) polygon_line rest → HasMeshFault text (2 + h.parts + (h.vertices + 1) / 2 + length triangles)
 unfolding line_count
 triangle_fault text h sizes points triangles rest i a all c every d l e excluded =
     let behind : List ℕ = concat (size_lines 1 sizes) ++ (concat (point_lines points) ++ (concat (map polygon_line triangles) ++ rest)) in
@@ -72,7 +72,7 @@ triangle_fault text h sizes points triangles rest i a all c every d l e excluded
     let n : ℕ = suc (h.parts + ((h.vertices + 1) / 2 + length triangles)) in
     let none : (s : Surface) → StartsAs text (n + 1) s → ⊥ =
     λ s u. triangle_stuck h sizes points triangles rest s i a all c every d l excluded (behind_head text h behind n s i e (subst (λ (k : ℕ). StartsAs text k s) (add-one n) u)) in
-    subst (HasFault text) (let k : n + 1 ≡ 2 + h.parts + (h.vertices + 1) / 2 + length triangles = omega arith in k) (fault_from text n t.0 t.1 none (unread_by text h behind n i e (omega arith) none))
+    subst (HasMeshFault text) (let k : n + 1 ≡ 2 + h.parts + (h.vertices + 1) / 2 + length triangles = omega arith in k) (fault_from text n t.0 t.1 none (unread_by text h behind n i e (omega arith) none))
 
 -- ---- after the last line
 
@@ -85,7 +85,7 @@ whole_width h sizes points triangles p =
     omega (
       arith,
       ap length (concat-lines_with h sizes points triangles),
-      length-append (head_line h) (A ++ (B ++ C)),
+      length-append (mesh_head_line h) (A ++ (B ++ C)),
       length-append A (B ++ C),
       length-append B C,
       head_width h p.head,
@@ -98,7 +98,7 @@ whole_width h sizes points triangles p =
     )
 
 pub end_fault : (text : List ℕ) (h : Counts) (sizes : List ℕ) (points : List Point) (triangles : List (List ℕ)) (rest : List ℕ) → HasPieces h sizes points triangles → AreSizes h sizes → ArePoints h points → AreTriangles h triangles → 0 < length rest →
-    text ≡ head_line h ++ (concat (size_lines 1 sizes) ++ (concat (point_lines points) ++ (concat (map polygon_line triangles) ++ rest))) → HasFault text (2 + h.parts + (h.vertices + 1) / 2 + h.polygons)
+    text ≡ mesh_head_line h ++ (concat (size_lines 1 sizes) ++ (concat (point_lines points) ++ (concat (map polygon_line triangles) ++ rest))) → HasMeshFault text (2 + h.parts + (h.vertices + 1) / 2 + h.polygons)
 unfolding line_count
 end_fault text h sizes points triangles rest p a c d l e =
     let behind : List ℕ = concat (size_lines 1 sizes) ++ (concat (point_lines points) ++ (concat (map polygon_line triangles) ++ rest)) in
@@ -107,7 +107,7 @@ end_fault text h sizes points triangles rest p a c d l e =
     let none : (s : Surface) → StartsAs text (n + 1) s → ⊥ =
     λ s u. (let b = behind_head text h behind n s p.head e (subst (λ (k : ℕ). StartsAs text k s) (add-one n) u) in
     absurd (omega (arith, u.fits, length-surface_lines s u.mesh, ap line_count b.head, p.polygons))) in
-    let unread : (s : Surface) → ReadsAs text s → ⊥ =
+    let unread : (s : Surface) → ReadsAsMesh text s → ⊥ =
     λ s r. (let b = behind_head text h behind 0 s p.head e (starts_whole text 1 s (some_line s) r) in
     let q = pieces_of s r.mesh in
     let A = concat (size_lines 1 sizes) in
@@ -121,7 +121,7 @@ end_fault text h sizes points triangles rest p a c d l e =
       whole_width (head_of s) (sizes_of s) s.vertices (polygons_of s) q,
       width (head_of s) b.head,
       ap length e,
-      length-append (head_line h) behind,
+      length-append (mesh_head_line h) behind,
       length-append A (B ++ (C ++ rest)),
       length-append B (C ++ rest),
       length-append C rest,
@@ -133,4 +133,4 @@ end_fault text h sizes points triangles rest p a c d l e =
       p.vertices,
       p.polygons,
     ))) in
-    subst (HasFault text) (let k : n + 1 ≡ 2 + h.parts + (h.vertices + 1) / 2 + h.polygons = omega (arith, p.polygons) in k) (fault_from text n t.0 t.1 none unread)
+    subst (HasMeshFault text) (let k : n + 1 ≡ 2 + h.parts + (h.vertices + 1) / 2 + h.polygons = omega (arith, p.polygons) in k) (fault_from text n t.0 t.1 none unread)

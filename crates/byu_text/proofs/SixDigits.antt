@@ -3,7 +3,7 @@ use Rattle.std.proofs.Common.{◌≡◌, ℕ, zero, suc, ◌+◌, ◌-◌, ◌<�
 use Rattle.std.specs.Prelude.{unsigned_abs, decimal}
 use Rattle.std.proofs.lemmas.List.{take_at, drop_at, length-append, length-replicate, length-take-le, take-append-drop}
 use Rattle.fku_types.specs.Points.{IsCoordinate}
-use Rattle.byu_text.specs.Fields.{coordinate_field, sign}
+use Rattle.byu_text.specs.Fields.{coordinate_field, sign_byte}
 use Rattle.byu_text.proofs.FieldLaws.{digits_few, digits_some, written, written_is, coordinate_one}
 
 -- ---- the bytes of a list, one by one
@@ -48,8 +48,8 @@ written_form s (d ∷ others) some few =
     ∙ ap (λ (l : List ℕ). s ∷ d ∷ 46 ∷ l) (sym (append_assoc others zeros (last (length others))))
     ∙ ap₂ (λ (n m : ℕ). s ∷ d ∷ 46 ∷ ((others ++ replicate n 48) ++ last m)) z k
 
-pub coordinate_form : (z : ℤ) → IsCoordinate z → coordinate_field z ≡ sign z ∷ form (filled (decimal (unsigned_abs z))) (length (decimal (unsigned_abs z)) - 1)
-coordinate_form z h = written_form (sign z) (decimal (unsigned_abs z)) (digits_some z h) (digits_few z h)
+pub coordinate_form : (z : ℤ) → IsCoordinate z → coordinate_field z ≡ sign_byte z ∷ form (filled (decimal (unsigned_abs z))) (length (decimal (unsigned_abs z)) - 1)
+coordinate_form z h = written_form (sign_byte z) (decimal (unsigned_abs z)) (digits_some z h) (digits_few z h)
 
 -- the bytes of a field, from those after the sign
 pub record Told (field six : List ℕ) (k : ℕ) : Type 0 where

@@ -8,11 +8,11 @@ use Rattle.std.proofs.lemmas.List.Elements.{All-append, All-push}
 use Rattle.std.proofs.lemmas.List.Folds.{concat-append}
 use Rattle.fku_types.specs.declared.points.Point.{Point}
 use Rattle.fku_types.specs.Points.{IsInRange}
-use Rattle.byu_text.specs.Fields.{point_line}
+use Rattle.byu_text.specs.Fields.{coordinates_line}
 use Rattle.byu_text.specs.Byu.{polygon_line}
-use Rattle.byu_text.specs.Reading.{HasFault, ReadsAs}
-use Rattle.byu_text.specs.Pieces.{Counts, head_line, size_line, size_lines, point_lines, AreSizes, ArePoints, AreTriangles, IsTriangle}
-use Rattle.byu_text.specs.Stages.{IsSize, AreNext, NoneOf, HasHead, HasSizes, HasPoints, HasTriangles, points_at, polygons_at, end_at}
+use Rattle.byu_text.specs.Reading.{HasMeshFault, ReadsAsMesh}
+use Rattle.byu_text.specs.Pieces.{Counts, mesh_head_line, size_line, size_lines, point_lines, AreSizes, ArePoints, AreTriangles, IsKnownTriangle}
+use Rattle.byu_text.specs.Stages.{IsSize, AreNext, NoneOf, HasHead, HasSizes, HasPoints, HasTriangles, point_lines_at, polygons_at, text_end_at}
 use Rattle.byu_text.proofs.Made.{made}
 use Rattle.byu_text.proofs.Completed.{size_lines-append, point_lines-append}
 use Rattle.byu_text.proofs.CountsStuck.{size_fault}
@@ -46,22 +46,22 @@ size_lines_more text sizes n first at to f e g =
     ∙ ap (λ (l : List ℕ). concat (size_lines 1 sizes) ++ l) (append-nil (size_line (1 + sum sizes) n) ∙ ap (λ (k : ℕ). size_line k n) (sym f)))
 
 pub size_fault_at : (text : List ℕ) (h : Counts) (sizes : List ℕ) (first part at : ℕ) → HasHead text h → AreSizes h sizes → length sizes ≡ part → first ≡ 1 + sum sizes → part < h.parts → drop 33 text ≡ concat (size_lines 1 sizes) ++ drop at text →
-    NoneOf (IsSize (h.polygons + 1 - first) (h.parts - part - 1)) (size_line first) (drop at text) → HasFault text (part + 2)
+    NoneOf (IsSize (h.polygons + 1 - first) (h.parts - part - 1)) (size_line first) (drop at text) → HasMeshFault text (part + 2)
 size_fault_at text h sizes first part at i a count f l e excluded =
     let rest : List ℕ = drop at text in
     let other : NoneOf (IsSize (h.polygons - sum sizes) (h.parts - length sizes - 1)) (size_line (1 + sum sizes)) rest =
     λ n more s g. excluded n more (record { some = s.some; room = omega (arith, s.room, f, count); all = λ z. omega (arith, s.all (omega (arith, z, count)), f) }) (g ∙ ap (λ (k : ℕ). size_line k n ++ more) (sym f)) in
-    subst (λ (k : ℕ). HasFault text (k + 2)) count (size_fault text h sizes rest i.counts a (omega (arith, count)) (i.line ∙ ap (λ (l : List ℕ). head_line h ++ l) e) other)
+    subst (λ (k : ℕ). HasMeshFault text (k + 2)) count (size_fault text h sizes rest i.counts a (omega (arith, count)) (i.line ∙ ap (λ (l : List ℕ). mesh_head_line h ++ l) e) other)
 
 -- ---- vertices
 
-two_lines : (ps : List Point) → AreNext 2 ps → point_lines ps ≡ point_line ps ∷ []
+two_lines : (ps : List Point) → AreNext 2 ps → point_lines ps ≡ coordinates_line ps ∷ []
 two_lines [] a = absurd (omega (arith, a.long))
 two_lines (p ∷ []) a = absurd (omega (arith, a.long))
 two_lines (p ∷ q ∷ []) a = refl
 two_lines (p ∷ q ∷ r ∷ ps) a = absurd (omega (arith, a.long))
 
-one_lines : (ps : List Point) → AreNext 1 ps → point_lines ps ≡ point_line ps ∷ []
+one_lines : (ps : List Point) → AreNext 1 ps → point_lines ps ≡ coordinates_line ps ∷ []
 one_lines [] a = absurd (omega (arith, a.long))
 one_lines (p ∷ []) a = refl
 one_lines (p ∷ q ∷ ps) a = absurd (omega (arith, a.long))
@@ -69,34 +69,34 @@ one_lines (p ∷ q ∷ ps) a = absurd (omega (arith, a.long))
 pub points_more : (h : Counts) (points next : List Point) (count : ℕ) → ArePoints h points → AreNext count next → length points + count ≤ h.vertices → ArePoints h (points ++ next)
 points_more h points next count a n l = record { range = All-append IsInRange points next a.range n.range; fit = omega (arith, length-append points next, n.long) }
 
-point_lines_more : (text : List ℕ) (points next : List Point) (j at from to : ℕ) → length points ≡ 2 * j → point_lines next ≡ point_line next ∷ [] → drop from text ≡ concat (point_lines points) ++ drop at text → drop at text ≡ point_line next ++ drop to text →
+point_lines_more : (text : List ℕ) (points next : List Point) (j at from to : ℕ) → length points ≡ 2 * j → point_lines next ≡ coordinates_line next ∷ [] → drop from text ≡ concat (point_lines points) ++ drop at text → drop at text ≡ coordinates_line next ++ drop to text →
     drop from text ≡ concat (point_lines (points ++ next)) ++ drop to text
 point_lines_more text points next j at from to even one e g =
-    more_lines (drop from text) (concat (point_lines points)) (drop at text) (point_line next) (drop to text) (point_lines (points ++ next)) e g
-    (ap concat (point_lines-append j points next even ∙ ap (λ (l : List (List ℕ)). point_lines points ++ l) one) ∙ concat-append (point_lines points) (point_line next ∷ [])
-    ∙ ap (λ (l : List ℕ). concat (point_lines points) ++ l) (append-nil (point_line next)))
+    more_lines (drop from text) (concat (point_lines points)) (drop at text) (coordinates_line next) (drop to text) (point_lines (points ++ next)) e g
+    (ap concat (point_lines-append j points next even ∙ ap (λ (l : List (List ℕ)). point_lines points ++ l) one) ∙ concat-append (point_lines points) (coordinates_line next ∷ [])
+    ∙ ap (λ (l : List ℕ). concat (point_lines points) ++ l) (append-nil (coordinates_line next)))
 
-pub two_more : (text : List ℕ) (points next : List Point) (j at from to : ℕ) → length points ≡ 2 * j → AreNext 2 next → drop from text ≡ concat (point_lines points) ++ drop at text → drop at text ≡ point_line next ++ drop to text →
+pub two_more : (text : List ℕ) (points next : List Point) (j at from to : ℕ) → length points ≡ 2 * j → AreNext 2 next → drop from text ≡ concat (point_lines points) ++ drop at text → drop at text ≡ coordinates_line next ++ drop to text →
     drop from text ≡ concat (point_lines (points ++ next)) ++ drop to text
 two_more text points next j at from to even a e g = point_lines_more text points next j at from to even (two_lines next a) e g
 
-pub one_more : (text : List ℕ) (points next : List Point) (j at from to : ℕ) → length points ≡ 2 * j → AreNext 1 next → drop from text ≡ concat (point_lines points) ++ drop at text → drop at text ≡ point_line next ++ drop to text →
+pub one_more : (text : List ℕ) (points next : List Point) (j at from to : ℕ) → length points ≡ 2 * j → AreNext 1 next → drop from text ≡ concat (point_lines points) ++ drop at text → drop at text ≡ coordinates_line next ++ drop to text →
     drop from text ≡ concat (point_lines (points ++ next)) ++ drop to text
 one_more text points next j at from to even a e g = point_lines_more text points next j at from to even (one_lines next a) e g
 
-pub points_fault_at : (text : List ℕ) (h : Counts) (sizes : List ℕ) (points : List Point) (j at count : ℕ) → HasHead text h → HasSizes text h sizes → ArePoints h points → length points ≡ 2 * j → 2 * j < h.vertices → count ≡ min 2 (h.vertices - 2 * j) → drop (points_at h) text ≡ concat (point_lines points) ++ drop at text →
-    NoneOf (AreNext count) point_line (drop at text) → HasFault text (h.parts + j + 2)
+pub points_fault_at : (text : List ℕ) (h : Counts) (sizes : List ℕ) (points : List Point) (j at count : ℕ) → HasHead text h → HasSizes text h sizes → ArePoints h points → length points ≡ 2 * j → 2 * j < h.vertices → count ≡ min 2 (h.vertices - 2 * j) → drop (point_lines_at h) text ≡ concat (point_lines points) ++ drop at text →
+    NoneOf (AreNext count) coordinates_line (drop at text) → HasMeshFault text (h.parts + j + 2)
 points_fault_at text h sizes points j at count i s a even l c e excluded =
     let rest : List ℕ = drop at text in
-    let bytes : text ≡ head_line h ++ (concat (size_lines 1 sizes) ++ (concat (point_lines points) ++ rest)) =
-    i.line ∙ ap (λ (l : List ℕ). head_line h ++ l) (s.lines ∙ ap (λ (l : List ℕ). concat (size_lines 1 sizes) ++ l) e) in
-    subst (HasFault text) (let k : 2 + h.parts + j ≡ h.parts + j + 2 = omega arith in k)
-    (points_fault text h sizes points rest j i.counts s.are s.all a even l bytes (subst (λ (k : ℕ). NoneOf (AreNext k) point_line rest) c excluded))
+    let bytes : text ≡ mesh_head_line h ++ (concat (size_lines 1 sizes) ++ (concat (point_lines points) ++ rest)) =
+    i.line ∙ ap (λ (l : List ℕ). mesh_head_line h ++ l) (s.lines ∙ ap (λ (l : List ℕ). concat (size_lines 1 sizes) ++ l) e) in
+    subst (HasMeshFault text) (let k : 2 + h.parts + j ≡ h.parts + j + 2 = omega arith in k)
+    (points_fault text h sizes points rest j i.counts s.are s.all a even l bytes (subst (λ (k : ℕ). NoneOf (AreNext k) coordinates_line rest) c excluded))
 
 -- ---- polygons
 
-pub triangles_more : (h : Counts) (triangles : List (List ℕ)) (t : List ℕ) → AreTriangles h triangles → IsTriangle h t → length triangles < h.polygons → AreTriangles h (triangles ++ t ∷ [])
-triangles_more h triangles t a k l = record { known = All-push (IsTriangle h) triangles t a.known k; fit = omega (arith, length-append triangles (t ∷ [])) }
+pub triangles_more : (h : Counts) (triangles : List (List ℕ)) (t : List ℕ) → AreTriangles h triangles → IsKnownTriangle h t → length triangles < h.polygons → AreTriangles h (triangles ++ t ∷ [])
+triangles_more h triangles t a k l = record { known = All-push (IsKnownTriangle h) triangles t a.known k; fit = omega (arith, length-append triangles (t ∷ [])) }
 
 pub polygon_lines_more : (text : List ℕ) (triangles : List (List ℕ)) (t : List ℕ) (at from to : ℕ) → drop from text ≡ concat (map polygon_line triangles) ++ drop at text → drop at text ≡ polygon_line t ++ drop to text →
     drop from text ≡ concat (map polygon_line (triangles ++ t ∷ [])) ++ drop to text
@@ -106,12 +106,12 @@ polygon_lines_more text triangles t at from to e g =
     ∙ ap (λ (l : List ℕ). concat (map polygon_line triangles) ++ l) (append-nil (polygon_line t)))
 
 pub triangle_fault_at : (text : List ℕ) (h : Counts) (sizes : List ℕ) (points : List Point) (triangles : List (List ℕ)) (n at : ℕ) → HasHead text h → HasSizes text h sizes → HasPoints text h points → AreTriangles h triangles → length triangles ≡ n → n < h.polygons →
-    drop (polygons_at h) text ≡ concat (map polygon_line triangles) ++ drop at text → NoneOf (IsTriangle h) polygon_line (drop at text) → HasFault text (h.parts + (h.vertices + 1) / 2 + n + 2)
+    drop (polygons_at h) text ≡ concat (map polygon_line triangles) ++ drop at text → NoneOf (IsKnownTriangle h) polygon_line (drop at text) → HasMeshFault text (h.parts + (h.vertices + 1) / 2 + n + 2)
 triangle_fault_at text h sizes points triangles n at i s p a count l e excluded =
     let rest : List ℕ = drop at text in
-    let bytes : text ≡ head_line h ++ (concat (size_lines 1 sizes) ++ (concat (point_lines points) ++ (concat (map polygon_line triangles) ++ rest))) =
-    i.line ∙ ap (λ (l : List ℕ). head_line h ++ l) (s.lines ∙ ap (λ (l : List ℕ). concat (size_lines 1 sizes) ++ l) (p.lines ∙ ap (λ (l : List ℕ). concat (point_lines points) ++ l) e)) in
-    subst (HasFault text) (let k : 2 + h.parts + (h.vertices + 1) / 2 + length triangles ≡ h.parts + (h.vertices + 1) / 2 + n + 2 = omega (arith, count) in k)
+    let bytes : text ≡ mesh_head_line h ++ (concat (size_lines 1 sizes) ++ (concat (point_lines points) ++ (concat (map polygon_line triangles) ++ rest))) =
+    i.line ∙ ap (λ (l : List ℕ). mesh_head_line h ++ l) (s.lines ∙ ap (λ (l : List ℕ). concat (size_lines 1 sizes) ++ l) (p.lines ∙ ap (λ (l : List ℕ). concat (point_lines points) ++ l) e)) in
+    subst (HasMeshFault text) (let k : 2 + h.parts + (h.vertices + 1) / 2 + length triangles ≡ h.parts + (h.vertices + 1) / 2 + n + 2 = omega (arith, count) in k)
     (triangle_fault text h sizes points triangles rest i.counts s.are s.all p.are p.all a (omega (arith, count)) bytes excluded)
 
 -- ---- whole texts
@@ -129,17 +129,17 @@ pieces_from text h sizes points triangles i s p t = record {
 }
 
 bytes_from : (text : List ℕ) (h : Counts) (sizes : List ℕ) (points : List Point) (triangles : List (List ℕ)) → HasHead text h → HasSizes text h sizes → HasPoints text h points → HasTriangles text h triangles →
-    text ≡ head_line h ++ (concat (size_lines 1 sizes) ++ (concat (point_lines points) ++ (concat (map polygon_line triangles) ++ drop (end_at h) text)))
+    text ≡ mesh_head_line h ++ (concat (size_lines 1 sizes) ++ (concat (point_lines points) ++ (concat (map polygon_line triangles) ++ drop (text_end_at h) text)))
 bytes_from text h sizes points triangles i s p t =
-    i.line ∙ ap (λ (l : List ℕ). head_line h ++ l) (s.lines ∙ ap (λ (l : List ℕ). concat (size_lines 1 sizes) ++ l) (p.lines ∙ ap (λ (l : List ℕ). concat (point_lines points) ++ l) t.lines))
+    i.line ∙ ap (λ (l : List ℕ). mesh_head_line h ++ l) (s.lines ∙ ap (λ (l : List ℕ). concat (size_lines 1 sizes) ++ l) (p.lines ∙ ap (λ (l : List ℕ). concat (point_lines points) ++ l) t.lines))
 
-pub end_fault_at : (text : List ℕ) (h : Counts) (sizes : List ℕ) (points : List Point) (triangles : List (List ℕ)) → HasHead text h → HasSizes text h sizes → HasPoints text h points → HasTriangles text h triangles → 0 < length (drop (end_at h) text) → HasFault text (h.parts + (h.vertices + 1) / 2 + h.polygons + 2)
+pub end_fault_at : (text : List ℕ) (h : Counts) (sizes : List ℕ) (points : List Point) (triangles : List (List ℕ)) → HasHead text h → HasSizes text h sizes → HasPoints text h points → HasTriangles text h triangles → 0 < length (drop (text_end_at h) text) → HasMeshFault text (h.parts + (h.vertices + 1) / 2 + h.polygons + 2)
 end_fault_at text h sizes points triangles i s p t l =
-    subst (HasFault text) (let k : 2 + h.parts + (h.vertices + 1) / 2 + h.polygons ≡ h.parts + (h.vertices + 1) / 2 + h.polygons + 2 = omega arith in k)
-    (end_fault text h sizes points triangles (drop (end_at h) text) (pieces_from text h sizes points triangles i s p t) s.are p.are t.are l (bytes_from text h sizes points triangles i s p t))
+    subst (HasMeshFault text) (let k : 2 + h.parts + (h.vertices + 1) / 2 + h.polygons ≡ h.parts + (h.vertices + 1) / 2 + h.polygons + 2 = omega arith in k)
+    (end_fault text h sizes points triangles (drop (text_end_at h) text) (pieces_from text h sizes points triangles i s p t) s.are p.are t.are l (bytes_from text h sizes points triangles i s p t))
 
-pub reads_from : (text : List ℕ) (h : Counts) (sizes : List ℕ) (points : List Point) (triangles : List (List ℕ)) → HasHead text h → HasSizes text h sizes → HasPoints text h points → HasTriangles text h triangles → length (drop (end_at h) text) ≡ 0 → ReadsAs text (made sizes points triangles)
+pub reads_from : (text : List ℕ) (h : Counts) (sizes : List ℕ) (points : List Point) (triangles : List (List ℕ)) → HasHead text h → HasSizes text h sizes → HasPoints text h points → HasTriangles text h triangles → length (drop (text_end_at h) text) ≡ 0 → ReadsAsMesh text (made sizes points triangles)
 reads_from text h sizes points triangles i s p t l =
     reads_made text h sizes points triangles (pieces_from text h sizes points triangles i s p t)
     (bytes_from text h sizes points triangles i s p t
-    ∙ ap (λ (r : List ℕ). head_line h ++ (concat (size_lines 1 sizes) ++ (concat (point_lines points) ++ r))) (ap (λ (r : List ℕ). concat (map polygon_line triangles) ++ r) (nil_from_length (drop (end_at h) text) l) ∙ append-nil (concat (map polygon_line triangles))))
+    ∙ ap (λ (r : List ℕ). mesh_head_line h ++ (concat (size_lines 1 sizes) ++ (concat (point_lines points) ++ r))) (ap (λ (r : List ℕ). concat (map polygon_line triangles) ++ r) (nil_from_length (drop (text_end_at h) text) l) ∙ append-nil (concat (map polygon_line triangles))))

@@ -6,10 +6,10 @@ use Rattle.std.proofs.lemmas.List.FromFn.{length-map-range_with_len, get_or-map-
 use Rattle.std.proofs.lemmas.List.Elements.{All-from_recursion, recursion_from_All}
 use Rattle.fku_types.specs.declared.points.Point.{Point}
 use Rattle.fku_types.proofs.ListLaws.{all_rest}
-use Rattle.byu_text.specs.Fields.{number_line, point_line}
+use Rattle.byu_text.specs.Fields.{number_line, coordinates_line}
 use Rattle.byu_text.specs.declared.numbers.VertexFields.{VertexFields}
 use Rattle.byu_text.specs.Numbers.{vertex_fields, vertex_table}
-use Rattle.byu_text.specs.Byu.{part_lines, vertex_lines, polygon_line}
+use Rattle.byu_text.specs.Byu.{part_ranges, vertex_lines, polygon_line}
 use Rattle.std.specs.Prelude.{pos}
 
 -- one more piece
@@ -19,22 +19,22 @@ pieces_more {X = X} f old text more xs i d l e m =
 
 -- the lines of the parts, with one more part
 pub part_more : (parts : List (List (List ℕ))) (i next n : ℕ) (text more whole : List ℕ) → i < length parts → n ≡ length (get_or parts i []) →
-    more ≡ text ++ number_line (pos next ∷ pos (next + n - 1) ∷ []) → text ++ part_lines next (drop i parts) ≡ whole → more ++ part_lines (next + n) (drop (i + 1) parts) ≡ whole
+    more ≡ text ++ number_line (pos next ∷ pos (next + n - 1) ∷ []) → text ++ part_ranges next (drop i parts) ≡ whole → more ++ part_ranges (next + n) (drop (i + 1) parts) ≡ whole
 part_more parts i next n text more whole l e m inv =
     let line : ℕ → List ℕ = λ k. number_line (pos next ∷ pos (next + k - 1) ∷ []) in
     let rest : List (List (List ℕ)) = drop (i + 1) parts in
-    ap (λ (t : List ℕ). t ++ part_lines (next + n) rest) m
-    ∙ append_assoc text (line n) (part_lines (next + n) rest)
-    ∙ ap (λ (k : ℕ). text ++ (line k ++ part_lines (next + k) rest)) e
-    ∙ ap (λ (l : List (List (List ℕ))). text ++ part_lines next l) (sym (drop_more parts i [] l)) ∙ inv
+    ap (λ (t : List ℕ). t ++ part_ranges (next + n) rest) m
+    ∙ append_assoc text (line n) (part_ranges (next + n) rest)
+    ∙ ap (λ (k : ℕ). text ++ (line k ++ part_ranges (next + k) rest)) e
+    ∙ ap (λ (l : List (List (List ℕ))). text ++ part_ranges next l) (sym (drop_more parts i [] l)) ∙ inv
 
 -- the lines of the vertices, with one more line
-pub vertices_more : (points rest left : List Point) (text more whole : List ℕ) → left ≡ points ++ rest → length points ≡ min 2 (length left) → 0 < length left → more ≡ text ++ point_line points → text ++ vertex_lines left ≡ whole → more ++ vertex_lines rest ≡ whole
+pub vertices_more : (points rest left : List Point) (text more whole : List ℕ) → left ≡ points ++ rest → length points ≡ min 2 (length left) → 0 < length left → more ≡ text ++ coordinates_line points → text ++ vertex_lines left ≡ whole → more ++ vertex_lines rest ≡ whole
 vertices_more [] rest left text more whole e n l m inv = absurd (omega (arith, n))
 vertices_more (p ∷ []) [] left text more whole e n l m inv = append-nil more ∙ m ∙ ap (λ (ps : List Point). text ++ vertex_lines ps) (sym e) ∙ inv
 vertices_more (p ∷ []) (r ∷ rest) left text more whole e n l m inv = absurd (omega (arith, n, ap length e))
 vertices_more (p ∷ q ∷ []) rest left text more whole e n l m inv =
-    ap (λ (t : List ℕ). t ++ vertex_lines rest) m ∙ append_assoc text (point_line (p ∷ q ∷ [])) (vertex_lines rest) ∙ ap (λ (ps : List Point). text ++ vertex_lines ps) (sym e) ∙ inv
+    ap (λ (t : List ℕ). t ++ vertex_lines rest) m ∙ append_assoc text (coordinates_line (p ∷ q ∷ [])) (vertex_lines rest) ∙ ap (λ (ps : List Point). text ++ vertex_lines ps) (sym e) ∙ inv
 vertices_more (p ∷ q ∷ r ∷ points) rest left text more whole e n l m inv = absurd (omega (arith, n))
 
 pub all_after : {X : Type 0} (P : X → Type 0) (xs ys left : List X) → left ≡ xs ++ ys → All P left → All P ys

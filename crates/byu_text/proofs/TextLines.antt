@@ -3,7 +3,7 @@ use Rattle.std.proofs.Common.{◌≡◌, ℕ, ◌==◌, Bool, true, false, cond,
 use Rattle.std.specs.List.{concat}
 use Rattle.std.specs.List.{AllByRecursion}
 use Rattle.std.proofs.lemmas.Bool.{ne_eqb, eqb-true}
-use Rattle.byu_text.specs.Lines.{before, lines_of}
+use Rattle.byu_text.specs.Lines.{with_byte_before, text_lines_of}
 
 -- bytes without a line feed
 abbrev pub IsOther : ℕ → Type 0
@@ -22,33 +22,33 @@ past_feed : (t : Bool) (xs ys : List (List ℕ)) → t ≡ false → cond t xs y
 past_feed false xs ys e = refl
 past_feed true xs ys e = absurd (let f : true ≡ false = e in cc)
 
-first_line : (body rest : List ℕ) → IsBare body → lines_of ((body ++ 10 ∷ []) ++ rest) ≡ (body ++ 10 ∷ []) ∷ lines_of rest
+first_line : (body rest : List ℕ) → IsBare body → text_lines_of ((body ++ 10 ∷ []) ++ rest) ≡ (body ++ 10 ∷ []) ∷ text_lines_of rest
 first_line [] rest bare = refl
 first_line (b ∷ body) rest bare =
-    past_feed (b == 10) ((10 ∷ []) ∷ lines_of ((body ++ 10 ∷ []) ++ rest)) (before b (lines_of ((body ++ 10 ∷ []) ++ rest))) (ne_eqb b 10 bare.0)
-    ∙ ap (before b) (first_line body rest bare.1)
+    past_feed (b == 10) ((10 ∷ []) ∷ text_lines_of ((body ++ 10 ∷ []) ++ rest)) (with_byte_before b (text_lines_of ((body ++ 10 ∷ []) ++ rest))) (ne_eqb b 10 bare.0)
+    ∙ ap (with_byte_before b) (first_line body rest bare.1)
 
-pub line_first : (line rest : List ℕ) → IsLine line → lines_of (line ++ rest) ≡ line ∷ lines_of rest
+pub line_first : (line rest : List ℕ) → IsLine line → text_lines_of (line ++ rest) ≡ line ∷ text_lines_of rest
 line_first line rest l =
-    ap (λ (x : List ℕ). lines_of (x ++ rest)) l.is ∙ first_line l.body rest l.bare ∙ ap (λ (x : List ℕ). x ∷ lines_of rest) (sym l.is)
+    ap (λ (x : List ℕ). text_lines_of (x ++ rest)) l.is ∙ first_line l.body rest l.bare ∙ ap (λ (x : List ℕ). x ∷ text_lines_of rest) (sym l.is)
 
 -- lines in front of a text are its first lines
-pub lines_first : (lines : List (List ℕ)) (rest : List ℕ) → AllByRecursion IsLine lines → lines_of (concat lines ++ rest) ≡ lines ++ lines_of rest
+pub lines_first : (lines : List (List ℕ)) (rest : List ℕ) → AllByRecursion IsLine lines → text_lines_of (concat lines ++ rest) ≡ lines ++ text_lines_of rest
 lines_first [] rest all = refl
 lines_first (line ∷ lines) rest all =
-    ap lines_of (append_assoc line (concat lines) rest)
+    ap text_lines_of (append_assoc line (concat lines) rest)
     ∙ line_first line (concat lines ++ rest) all.0
     ∙ ap (λ (l : List (List ℕ)). line ∷ l) (lines_first lines rest all.1)
 
-concat-before : (b : ℕ) (lines : List (List ℕ)) → concat (before b lines) ≡ b ∷ concat lines
+concat-before : (b : ℕ) (lines : List (List ℕ)) → concat (with_byte_before b lines) ≡ b ∷ concat lines
 concat-before b [] = refl
 concat-before b (line ∷ lines) = refl
 
 -- a text is its lines, one after another
-pub concat-lines : (text : List ℕ) → concat (lines_of text) ≡ text
+pub concat-lines : (text : List ℕ) → concat (text_lines_of text) ≡ text
 concat-lines [] = refl
 concat-lines (b ∷ bs) = by_byte (b == 10) refl (concat-lines bs)
   where
-    by_byte : (t : Bool) → (b == 10) ≡ t → concat (lines_of bs) ≡ bs → concat (cond t ((10 ∷ []) ∷ lines_of bs) (before b (lines_of bs))) ≡ b ∷ bs
+    by_byte : (t : Bool) → (b == 10) ≡ t → concat (text_lines_of bs) ≡ bs → concat (cond t ((10 ∷ []) ∷ text_lines_of bs) (with_byte_before b (text_lines_of bs))) ≡ b ∷ bs
     by_byte true e rest = ap₂ (λ (x : ℕ) (l : List ℕ). x ∷ l) (sym (eqb-true b 10 e)) rest
-    by_byte false e rest = concat-before b (lines_of bs) ∙ ap (λ (l : List ℕ). b ∷ l) rest
+    by_byte false e rest = concat-before b (text_lines_of bs) ∙ ap (λ (l : List ℕ). b ∷ l) rest

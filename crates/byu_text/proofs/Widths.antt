@@ -8,9 +8,9 @@ use Rattle.std.proofs.lemmas.List.Elements.{All-head, All-tail, All-take, All-dr
 use Rattle.std.proofs.lemmas.List.Folds.{concat-append}
 use Rattle.fku_types.specs.declared.points.Point.{Point}
 use Rattle.fku_types.specs.Points.{IsInRange}
-use Rattle.byu_text.specs.Fields.{point_line}
+use Rattle.byu_text.specs.Fields.{coordinates_line}
 use Rattle.byu_text.specs.Byu.{polygon_line}
-use Rattle.byu_text.specs.Pieces.{Counts, size_line, IsHead, size_lines, point_lines, IsTriangle}
+use Rattle.byu_text.specs.Pieces.{Counts, size_line, AreMeshCounts, size_lines, point_lines, IsKnownTriangle}
 use Rattle.byu_text.proofs.Cancel.{split_same}
 use Rattle.byu_text.proofs.FieldBytes.{point_line_width, point_line_one}
 use Rattle.byu_text.proofs.LineForms.{size_width, size_one, triangle_width, triangle_one}
@@ -25,14 +25,14 @@ sizes_width next (n ∷ ns) l =
 
 pub points_width : (ps : List Point) → All IsInRange ps → length (concat (point_lines ps)) ≡ 36 * length ps + (length ps + 1) / 2
 points_width [] a = refl
-points_width (p ∷ []) a = omega (arith, length-append (point_line (p ∷ [])) [], point_line_width (p ∷ []) a)
+points_width (p ∷ []) a = omega (arith, length-append (coordinates_line (p ∷ [])) [], point_line_width (p ∷ []) a)
 points_width (p ∷ q ∷ ps) a =
-    omega (arith, length-append (point_line (p ∷ q ∷ [])) (concat (point_lines ps)), point_line_width (p ∷ q ∷ []) (All-take IsInRange 2 (p ∷ q ∷ ps) a), points_width ps (All-drop IsInRange 2 (p ∷ q ∷ ps) a))
+    omega (arith, length-append (coordinates_line (p ∷ q ∷ [])) (concat (point_lines ps)), point_line_width (p ∷ q ∷ []) (All-take IsInRange 2 (p ∷ q ∷ ps) a), points_width ps (All-drop IsInRange 2 (p ∷ q ∷ ps) a))
 
-pub triangles_width : (h : Counts) → IsHead h → (ts : List (List ℕ)) → All (IsTriangle h) ts → length (concat (map polygon_line ts)) ≡ 25 * length ts
+pub triangles_width : (h : Counts) → AreMeshCounts h → (ts : List (List ℕ)) → All (IsKnownTriangle h) ts → length (concat (map polygon_line ts)) ≡ 25 * length ts
 triangles_width h i [] a = refl
 triangles_width h i (t ∷ ts) a =
-    omega (arith, length-append (polygon_line t) (concat (map polygon_line ts)), triangle_width h t i (All-head (IsTriangle h) t ts a), triangles_width h i ts (All-tail (IsTriangle h) t ts a))
+    omega (arith, length-append (polygon_line t) (concat (map polygon_line ts)), triangle_width h t i (All-head (IsKnownTriangle h) t ts a), triangles_width h i ts (All-tail (IsKnownTriangle h) t ts a))
 
 -- ---- one text for each
 
@@ -58,21 +58,21 @@ pub points_same : (ps qs : List Point) → length ps ≡ length qs → All IsInR
 points_same [] [] l a b e = refl
 points_same [] (q ∷ qs) l a b e = absurd (omega (arith, l))
 points_same (p ∷ ps) [] l a b e = absurd (omega (arith, l))
-points_same (p ∷ []) (q ∷ []) l a b e = point_line_one (p ∷ []) (q ∷ []) a b refl (sym (append-nil (point_line (p ∷ []))) ∙ e ∙ append-nil (point_line (q ∷ [])))
+points_same (p ∷ []) (q ∷ []) l a b e = point_line_one (p ∷ []) (q ∷ []) a b refl (sym (append-nil (coordinates_line (p ∷ []))) ∙ e ∙ append-nil (coordinates_line (q ∷ [])))
 points_same (p ∷ []) (q ∷ q' ∷ qs) l a b e = absurd (omega (arith, l))
 points_same (p ∷ p' ∷ ps) (q ∷ []) l a b e = absurd (omega (arith, l))
 points_same (p ∷ p' ∷ ps) (q ∷ q' ∷ qs) l a b e =
     let two = All-take IsInRange 2 (p ∷ p' ∷ ps) a in
     let two' = All-take IsInRange 2 (q ∷ q' ∷ qs) b in
-    let first = split_same (point_line (p ∷ p' ∷ [])) (point_line (q ∷ q' ∷ [])) (concat (point_lines ps)) (concat (point_lines qs)) (point_line_width (p ∷ p' ∷ []) two ∙ sym (point_line_width (q ∷ q' ∷ []) two')) e in
+    let first = split_same (coordinates_line (p ∷ p' ∷ [])) (coordinates_line (q ∷ q' ∷ [])) (concat (point_lines ps)) (concat (point_lines qs)) (point_line_width (p ∷ p' ∷ []) two ∙ sym (point_line_width (q ∷ q' ∷ []) two')) e in
     ap₂ (λ (x y : List Point). x ++ y) (point_line_one (p ∷ p' ∷ []) (q ∷ q' ∷ []) two two' refl first.0) (points_same ps qs (omega (arith, l)) (All-drop IsInRange 2 (p ∷ p' ∷ ps) a) (All-drop IsInRange 2 (q ∷ q' ∷ qs) b) first.1)
 
-pub triangles_same : (h : Counts) → IsHead h → (ss ts : List (List ℕ)) → length ss ≡ length ts → All (IsTriangle h) ss → All (IsTriangle h) ts → concat (map polygon_line ss) ≡ concat (map polygon_line ts) → ss ≡ ts
+pub triangles_same : (h : Counts) → AreMeshCounts h → (ss ts : List (List ℕ)) → length ss ≡ length ts → All (IsKnownTriangle h) ss → All (IsKnownTriangle h) ts → concat (map polygon_line ss) ≡ concat (map polygon_line ts) → ss ≡ ts
 triangles_same h i [] [] l a b e = refl
 triangles_same h i [] (t ∷ ts) l a b e = absurd (omega (arith, l))
 triangles_same h i (s ∷ ss) [] l a b e = absurd (omega (arith, l))
 triangles_same h i (s ∷ ss) (t ∷ ts) l a b e =
-    let P : List ℕ → Type 0 = IsTriangle h in
+    let P : List ℕ → Type 0 = IsKnownTriangle h in
     let x = All-head P s ss a in
     let y = All-head P t ts b in
     let first = split_same (polygon_line s) (polygon_line t) (concat (map polygon_line ss)) (concat (map polygon_line ts)) (triangle_width h s i x ∙ sym (triangle_width h t i y)) e in

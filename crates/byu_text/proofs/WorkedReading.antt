@@ -8,11 +8,11 @@ use Rattle.fku_types.specs.Points.{IsInRange}
 use Rattle.plane_geom.specs.Rings.{IsClosed}
 use Rattle.triangle_meshes.specs.Meshes.{Surface}
 use Rattle.triangle_meshes.proofs.Validity.{valid_from_test}
-use Rattle.byu_text.specs.Fields.{point_line, sign}
-use Rattle.byu_text.specs.Lines.{lines_of}
-use Rattle.byu_text.specs.Reading.{IsMesh, ReadsAs, BeginsAs, HasFault}
+use Rattle.byu_text.specs.Fields.{coordinates_line, sign_byte}
+use Rattle.byu_text.specs.Lines.{text_lines_of}
+use Rattle.byu_text.specs.Reading.{IsMesh, ReadsAsMesh, BeginsAs, HasMeshFault}
 use Rattle.triangle_meshes.specs.Edges.{edges_of}
-use Rattle.byu_text.specs.Pieces.{Counts, IsHead, AreSizes, ArePoints}
+use Rattle.byu_text.specs.Pieces.{Counts, AreMeshCounts, AreSizes, ArePoints}
 use Rattle.byu_text.specs.Stages.{AreNext, NoneOf}
 use Rattle.byu_text.proofs.Fronts.{StartsAs, starts_from_begins, has_lines, fault_from}
 use Rattle.byu_text.proofs.BehindHead.{unread_by}
@@ -77,11 +77,11 @@ three_each = All-cons (All (λ ids. length ids ≡ 3)) (get_or squares.parts 0 [
 squares_are : IsMesh squares
 squares_are = record { valid = valid_from_test squares refl; triangles = three_each }
 
-pub squares_read : ReadsAs squares_text squares
+pub squares_read : ReadsAsMesh squares_text squares
 unfolding digits
 squares_read = record { mesh = squares_are; same = refl }
 
-pub eighteen_lines : length (lines_of squares_text) ≡ 18
+pub eighteen_lines : length (text_lines_of squares_text) ≡ 18
 eighteen_lines = refl
 
 pub eighteen_edges : edges_of squares ≡ 18
@@ -100,7 +100,7 @@ turned_open closed = absurd (let e : 2 ≡ 0 = closed 7 6 in omega (arith, e))
 
 -- ---- no bytes
 
-pub no_bytes : HasFault [] 1
+pub no_bytes : HasMeshFault [] 1
 no_bytes = head_fault [] (λ h more i e. absurd (let l = head_is h i in empty l.body more (e ∙ ap (λ (x : List ℕ). x ++ more) l.is)))
   where
     empty : (body more : List ℕ) → [] ≡ (body ++ 10 ∷ []) ++ more → ⊥
@@ -112,17 +112,17 @@ no_bytes = head_fault [] (λ h more i e. absurd (let l = head_is h i in empty l.
 abbrev counts : Counts
 counts = record { parts = 1; vertices = 8; polygons = 12 }
 
-counts_are : IsHead counts
+counts_are : AreMeshCounts counts
 counts_are = record { some_part = omega arith; few_parts = omega arith; some_vertex = omega arith; few_vertices = omega arith; enough = omega arith; few_polygons = omega arith }
 
 short_begins : BeginsAs short_text 17 squares
 unfolding digits
 short_begins = record { mesh = squares_are; same = refl }
 
-pub line_missing : HasFault short_text 18
+pub line_missing : HasMeshFault short_text 18
 unfolding digits line_count
 line_missing =
-    let seventeen : length (lines_of short_text) ≡ 17 = refl in
+    let seventeen : length (text_lines_of short_text) ≡ 17 = refl in
     let t = starts_from_begins short_text 17 squares (omega (arith, seventeen)) short_begins in
     let none : (s : Surface) → StartsAs short_text (17 + 1) s → ⊥ = λ s u. absurd (omega (arith, has_lines short_text 18 s u, seventeen)) in
     fault_from short_text 17 squares t none (unread_by short_text counts (part_text ++ (first_vertices ++ (later_vertices ++ first_polygons))) 17 counts_are refl (lit< tt) none)
@@ -135,15 +135,15 @@ sizes_are = record { some = All-cons (λ n. 1 ≤ n) 12 [] (omega arith) (All-ni
 points_are : ArePoints counts []
 points_are = record { range = All-nil IsInRange; fit = omega arith }
 
-no_sign : (z : ℤ) → 43 ≡ sign z → ⊥
+no_sign : (z : ℤ) → 43 ≡ sign_byte z → ⊥
 no_sign (pos n) e = absurd (omega (arith, e))
 no_sign (negsuc n) e = absurd (omega (arith, e))
 
-no_plus : (more : List ℕ) → NoneOf (AreNext 2) point_line (43 ∷ more)
+no_plus : (more : List ℕ) → NoneOf (AreNext 2) coordinates_line (43 ∷ more)
 no_plus more ps rest a e =
     let r = two_of ps a.long in
-    no_sign r.first.x (ap (λ (l : List ℕ). get_or l 0 0) (e ∙ ap (λ (qs : List Point). point_line qs ++ rest) r.is))
+    no_sign r.first.x (ap (λ (l : List ℕ). get_or l 0 0) (e ∙ ap (λ (qs : List Point). coordinates_line qs ++ rest) r.is))
 
-pub plus_refused : HasFault plus_text 3
+pub plus_refused : HasMeshFault plus_text 3
 unfolding digits
 plus_refused = points_fault plus_text counts (12 ∷ []) [] (plus_vertices ++ (later_vertices ++ (first_polygons ++ codes "       6       7      -8\n"))) 0 counts_are sizes_are refl points_are refl (omega arith) refl (no_plus _)

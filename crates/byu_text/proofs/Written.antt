@@ -11,10 +11,10 @@ use Rattle.fku_types.specs.declared.points.Point.{Point}
 use Rattle.fku_types.specs.Points.{IsInRange}
 use Rattle.fku_types.proofs.ListLaws.{all_join}
 use Rattle.triangle_meshes.specs.Meshes.{Surface}
-use Rattle.byu_text.specs.Fields.{point_line}
-use Rattle.byu_text.specs.Byu.{counts_line, part_lines, vertex_lines, polygon_line, byu_of}
+use Rattle.byu_text.specs.Fields.{coordinates_line}
+use Rattle.byu_text.specs.Byu.{counts_line, part_ranges, vertex_lines, polygon_line, byu_of}
 use Rattle.byu_text.specs.Reading.{IsMesh}
-use Rattle.byu_text.specs.Pieces.{Counts, size_line, head_line, IsHead, size_lines, point_lines, IsTriangle}
+use Rattle.byu_text.specs.Pieces.{Counts, size_line, mesh_head_line, AreMeshCounts, size_lines, point_lines, IsKnownTriangle}
 use Rattle.byu_text.proofs.TextLines.{IsLine}
 use Rattle.byu_text.proofs.FieldBytes.{point_line_is}
 use Rattle.byu_text.proofs.LineForms.{head_is, size_is, triangle_is}
@@ -30,21 +30,21 @@ abbrev pub polygons_of : Surface → List (List ℕ)
 polygons_of s = flat_map (λ part. part) s.parts
 
 abbrev pub lines_with : Counts → List ℕ → List Point → List (List ℕ) → List (List ℕ)
-lines_with h sizes points triangles = head_line h ∷ (size_lines 1 sizes ++ (point_lines points ++ map polygon_line triangles))
+lines_with h sizes points triangles = mesh_head_line h ∷ (size_lines 1 sizes ++ (point_lines points ++ map polygon_line triangles))
 
 abbrev pub surface_lines : Surface → List (List ℕ)
 surface_lines s = lines_with (head_of s) (sizes_of s) s.vertices (polygons_of s)
 
 -- ---- the text is these lines
 
-parts_written : (n : ℕ) (parts : List (List (List ℕ))) → concat (size_lines n (map length parts)) ≡ part_lines n parts
+parts_written : (n : ℕ) (parts : List (List (List ℕ))) → concat (size_lines n (map length parts)) ≡ part_ranges n parts
 parts_written n [] = refl
 parts_written n (part ∷ parts) = ap (λ (l : List ℕ). size_line n (length part) ++ l) (parts_written (n + length part) parts)
 
 vertices_written : (ps : List Point) → concat (point_lines ps) ≡ vertex_lines ps
 vertices_written [] = refl
-vertices_written (p ∷ []) = append-nil (point_line (p ∷ []))
-vertices_written (p ∷ q ∷ ps) = ap (λ (l : List ℕ). point_line (p ∷ q ∷ []) ++ l) (vertices_written ps)
+vertices_written (p ∷ []) = append-nil (coordinates_line (p ∷ []))
+vertices_written (p ∷ q ∷ ps) = ap (λ (l : List ℕ). coordinates_line (p ∷ q ∷ []) ++ l) (vertices_written ps)
 
 pub concat-map : (ts : List (List ℕ)) → concat (map polygon_line ts) ≡ flat_map polygon_line ts
 concat-map [] = refl
@@ -55,9 +55,9 @@ polygons_written [] = refl
 polygons_written (part ∷ parts) = flat_map-append polygon_line part (flat_map (λ part. part) parts) ∙ ap (λ (l : List ℕ). flat_map polygon_line part ++ l) (polygons_written parts)
 
 pub concat-lines_with : (h : Counts) (sizes : List ℕ) (points : List Point) (triangles : List (List ℕ)) →
-    concat (lines_with h sizes points triangles) ≡ head_line h ++ (concat (size_lines 1 sizes) ++ (concat (point_lines points) ++ concat (map polygon_line triangles)))
+    concat (lines_with h sizes points triangles) ≡ mesh_head_line h ++ (concat (size_lines 1 sizes) ++ (concat (point_lines points) ++ concat (map polygon_line triangles)))
 concat-lines_with h sizes points triangles =
-    ap (λ (l : List ℕ). head_line h ++ l) (concat-append (size_lines 1 sizes) (point_lines points ++ map polygon_line triangles)
+    ap (λ (l : List ℕ). mesh_head_line h ++ l) (concat-append (size_lines 1 sizes) (point_lines points ++ map polygon_line triangles)
     ∙ ap (λ (l : List ℕ). concat (size_lines 1 sizes) ++ l) (concat-append (point_lines points) (map polygon_line triangles)))
 
 pub written : (s : Surface) → byu_of s ≡ concat (surface_lines s)
@@ -66,7 +66,7 @@ written s =
     let a = parts_written 1 s.parts in
     let b = vertices_written s.vertices in
     let c = concat-map (polygons_of s) ∙ polygons_written s.parts in
-    sym (concat-lines_with (head_of s) (sizes_of s) s.vertices (polygons_of s) ∙ ap₂ (λ (x y : List ℕ). join x y (concat (map polygon_line (polygons_of s)))) a b ∙ ap (join (part_lines 1 s.parts) (vertex_lines s.vertices)) c)
+    sym (concat-lines_with (head_of s) (sizes_of s) s.vertices (polygons_of s) ∙ ap₂ (λ (x y : List ℕ). join x y (concat (map polygon_line (polygons_of s)))) a b ∙ ap (join (part_ranges 1 s.parts) (vertex_lines s.vertices)) c)
 
 -- ---- what a valid mesh has
 
@@ -80,19 +80,19 @@ all_flat P (part ∷ parts) a = All-append P part (flat_map (λ part. part) part
 
 -- the pieces of a valid mesh's text
 pub record HasPieces (h : Counts) (sizes : List ℕ) (points : List Point) (triangles : List (List ℕ)) : Type 0 where
-  pub head : IsHead h
+  pub head : AreMeshCounts h
   pub some : All (λ n. 1 ≤ n) sizes
   pub parts : length sizes ≡ h.parts
   pub sum : sum sizes ≡ h.polygons
   pub range : All IsInRange points
   pub vertices : length points ≡ h.vertices
-  pub known : All (IsTriangle h) triangles
+  pub known : All (IsKnownTriangle h) triangles
   pub polygons : length triangles ≡ h.polygons
 
 pub pieces_of : (s : Surface) → IsMesh s → HasPieces (head_of s) (sizes_of s) s.vertices (polygons_of s)
 pieces_of s m =
     let v = m.valid in
-    let both : All (All (IsTriangle (head_of s))) s.parts = λ k d l k' d' l'. (m.triangles k d l k' d' l', v.known_ids k d l k' d' l') in
+    let both : All (All (IsKnownTriangle (head_of s))) s.parts = λ k d l k' d' l'. (m.triangles k d l k' d' l', v.known_ids k d l k' d' l') in
     let sizes : All (λ n. 1 ≤ n) (sizes_of s) = All-map (λ n. 1 ≤ n) length s.parts v.some_triangle in
     record {
       head = record { some_part = v.some_part; few_parts = v.few_parts; some_vertex = v.some_vertex; few_vertices = v.few_vertices; enough = omega (arith, length-le-sum (sizes_of s) sizes, length-map s.parts length, sum-map length s.parts); few_polygons = v.few_triangles };
@@ -101,7 +101,7 @@ pieces_of s m =
       sum = sum-map length s.parts;
       range = v.in_range;
       vertices = refl;
-      known = all_flat (IsTriangle (head_of s)) s.parts both;
+      known = all_flat (IsKnownTriangle (head_of s)) s.parts both;
       polygons = length-flat_map (λ part. part) s.parts;
     }
 
@@ -118,9 +118,9 @@ points_are [] a = tt
 points_are (p ∷ []) a = (point_line_is (p ∷ []) a, tt)
 points_are (p ∷ q ∷ ps) a = (point_line_is (p ∷ q ∷ []) (All-take IsInRange 2 (p ∷ q ∷ ps) a), points_are ps (All-drop IsInRange 2 (p ∷ q ∷ ps) a))
 
-pub triangles_are : (h : Counts) → IsHead h → (ts : List (List ℕ)) → All (IsTriangle h) ts → AllByRecursion IsLine (map polygon_line ts)
+pub triangles_are : (h : Counts) → AreMeshCounts h → (ts : List (List ℕ)) → All (IsKnownTriangle h) ts → AllByRecursion IsLine (map polygon_line ts)
 triangles_are h i [] a = tt
-triangles_are h i (t ∷ ts) a = (triangle_is h t i (All-head (IsTriangle h) t ts a), triangles_are h i ts (All-tail (IsTriangle h) t ts a))
+triangles_are h i (t ∷ ts) a = (triangle_is h t i (All-head (IsKnownTriangle h) t ts a), triangles_are h i ts (All-tail (IsKnownTriangle h) t ts a))
 
 pub lines_are : (h : Counts) (sizes : List ℕ) (points : List Point) (triangles : List (List ℕ)) → HasPieces h sizes points triangles → AllByRecursion IsLine (lines_with h sizes points triangles)
 lines_are h sizes points triangles p =

@@ -13,9 +13,9 @@ abbrev pub number_field : ℤ → List ℕ
 number_field z = replicate (8 - length (signed_decimal z)) 32 ++ signed_decimal z
 
 -- a blank, or a minus before a negative number
-abbrev pub sign : ℤ → ℕ
-sign (pos n) = 32
-sign (negsuc n) = 45
+abbrev pub sign_byte : ℤ → ℕ
+sign_byte (pos n) = 32
+sign_byte (negsuc n) = 45
 
 -- the last three digits of a number, and the last six, with leading zeros
 abbrev pub three_digits : ℕ → List ℕ
@@ -35,7 +35,7 @@ abbrev pub coordinate_field : ℤ → List ℕ
 coordinate_field z =
     let digits = decimal (unsigned_abs z) in
     let others = length digits - 1 in
-    sign z ∷ (take 1 digits ++ (codes "."
+    sign_byte z ∷ (take 1 digits ++ (codes "."
     ++ (drop 1 digits ++ (replicate (5 - others) 48 ++ (codes "E+0" ++ decimal others)))))
 
 -- the coordinates of a point
@@ -46,5 +46,5 @@ point_fields p = coordinate_field p.x ++ (coordinate_field p.y ++ coordinate_fie
 abbrev pub number_line : List ℤ → List ℕ
 number_line numbers = flat_map number_field numbers ++ codes "\n"
 
-abbrev pub point_line : List Point → List ℕ
-point_line points = flat_map point_fields points ++ codes "\n"
+abbrev pub coordinates_line : List Point → List ℕ
+coordinates_line points = flat_map point_fields points ++ codes "\n"

@@ -2,8 +2,8 @@
 use Rattle.std.specs.Prelude.{ℕ, ◌≡◌, ◌⊎◌, ◌%◌, ◌<◌, ◌++◌, List, [], ◌∷◌, map, take, length}
 use Rattle.fku_types.specs.declared.points.Point.{Point}
 use Rattle.byu_text.specs.Byu.{polygon_line}
-use Rattle.byu_text.specs.Lines.{lines_of}
-use Rattle.byu_text.specs.Pieces.{Counts, head_line, IsHead, size_lines, point_lines, AreSizes, ArePoints, AreTriangles}
+use Rattle.byu_text.specs.Lines.{text_lines_of}
+use Rattle.byu_text.specs.Pieces.{Counts, mesh_head_line, AreMeshCounts, size_lines, point_lines, AreSizes, ArePoints, AreTriangles}
 
 -- counts of a valid mesh, the first sizes, vertices and polygons; each of these begins only after all of the one before
 -- it, and vertices come in pairs
@@ -13,8 +13,8 @@ pub record Front : Type 0 where
   pub points : List Point
   pub triangles : List (List ℕ)
 
-pub record IsFront (f : Front) : Type 0 where
-  pub counts : IsHead f.head
+pub record IsMeshFront (f : Front) : Type 0 where
+  pub counts : AreMeshCounts f.head
   pub sizes : AreSizes f.head f.sizes
   pub points : ArePoints f.head f.points
   pub triangles : AreTriangles f.head f.triangles
@@ -24,8 +24,8 @@ pub record IsFront (f : Front) : Type 0 where
 
 -- the lines of a front
 abbrev pub front_lines : Front → List (List ℕ)
-front_lines f = head_line f.head ∷ (size_lines 1 f.sizes ++ (point_lines f.points ++ map polygon_line f.triangles))
+front_lines f = mesh_head_line f.head ∷ (size_lines 1 f.sizes ++ (point_lines f.points ++ map polygon_line f.triangles))
 
 -- the first n lines of a text are those of a front, or there are none
-abbrev pub HasFront : List ℕ → ℕ → Type 0
-HasFront text n = (n ≡ 0) ⊎ ((f : Front) × IsFront f × (take n (lines_of text) ≡ front_lines f))
+abbrev pub HasMeshFront : List ℕ → ℕ → Type 0
+HasMeshFront text n = (n ≡ 0) ⊎ ((f : Front) × IsMeshFront f × (take n (text_lines_of text) ≡ front_lines f))

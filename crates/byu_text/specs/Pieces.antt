@@ -4,7 +4,7 @@ use Rattle.std.specs.Prelude.{ℕ, ◌≡◌, ◌+◌, ◌-◌, ◌*◌, ◌<◌
 use Rattle.fku_types.specs.declared.limits.TheConstants.{MAX_MESH_PARTS, MAX_MESH_TRIANGLES, MAX_MESH_VERTICES}
 use Rattle.fku_types.specs.declared.points.Point.{Point}
 use Rattle.fku_types.specs.Points.{IsInRange}
-use Rattle.byu_text.specs.Fields.{number_line, point_line}
+use Rattle.byu_text.specs.Fields.{number_line, coordinates_line}
 
 -- how many parts, vertices and polygons
 pub record Counts : Type 0 where
@@ -13,11 +13,11 @@ pub record Counts : Type 0 where
   pub polygons : ℕ
 
 -- the line of these counts of parts, vertices and polygons
-abbrev pub head_line : Counts → List ℕ
-head_line h = number_line (pos h.parts ∷ pos h.vertices ∷ pos h.polygons ∷ pos (3 * h.polygons) ∷ [])
+abbrev pub mesh_head_line : Counts → List ℕ
+mesh_head_line h = number_line (pos h.parts ∷ pos h.vertices ∷ pos h.polygons ∷ pos (3 * h.polygons) ∷ [])
 
 -- some valid mesh has these counts: each part has a polygon
-pub record IsHead (h : Counts) : Type 0 where
+pub record AreMeshCounts (h : Counts) : Type 0 where
   pub some_part : 1 ≤ h.parts
   pub few_parts : h.parts ≤ MAX_MESH_PARTS
   pub some_vertex : 1 ≤ h.vertices
@@ -37,8 +37,8 @@ size_lines next (n ∷ ns) = size_line next n ∷ size_lines (next + n) ns
 -- the lines of vertices, two on each line
 abbrev pub point_lines : List Point → List (List ℕ)
 point_lines [] = []
-point_lines (p ∷ []) = point_line (p ∷ []) ∷ []
-point_lines (p ∷ q ∷ ps) = point_line (p ∷ q ∷ []) ∷ point_lines ps
+point_lines (p ∷ []) = coordinates_line (p ∷ []) ∷ []
+point_lines (p ∷ q ∷ ps) = coordinates_line (p ∷ q ∷ []) ∷ point_lines ps
 
 -- the sizes of the first parts: none is empty, a polygon is left for each part to come, and none is left after the last
 -- part
@@ -54,10 +54,10 @@ pub record ArePoints (h : Counts) (points : List Point) : Type 0 where
   pub fit : length points ≤ h.vertices
 
 -- a polygon of three known vertices
-abbrev pub IsTriangle : Counts → List ℕ → Type 0
-IsTriangle h ids = (length ids ≡ 3) × All (λ id. id < h.vertices) ids
+abbrev pub IsKnownTriangle : Counts → List ℕ → Type 0
+IsKnownTriangle h ids = (length ids ≡ 3) × All (λ id. id < h.vertices) ids
 
 -- the first polygons
 pub record AreTriangles (h : Counts) (triangles : List (List ℕ)) : Type 0 where
-  pub known : All (IsTriangle h) triangles
+  pub known : All (IsKnownTriangle h) triangles
   pub fit : length triangles ≤ h.polygons

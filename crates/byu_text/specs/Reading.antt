@@ -2,7 +2,7 @@
 use Rattle.std.specs.Prelude.{ℕ, ◌≡◌, ◌⊎◌, ◌+◌, ◌<◌, ◌≤◌, List, take, length, All}
 use Rattle.triangle_meshes.specs.Meshes.{Surface, IsValid}
 use Rattle.byu_text.specs.Byu.{byu_of}
-use Rattle.byu_text.specs.Lines.{lines_of}
+use Rattle.byu_text.specs.Lines.{text_lines_of}
 
 -- a valid mesh: its polygons are triangles
 pub record IsMesh (s : Surface) : Type 0 where
@@ -10,27 +10,27 @@ pub record IsMesh (s : Surface) : Type 0 where
   pub triangles : All (All (λ ids. length ids ≡ 3)) s.parts
 
 -- the text is that of this valid mesh, byte for byte
-pub record ReadsAs (text : List ℕ) (s : Surface) : Type 0 where
+pub record ReadsAsMesh (text : List ℕ) (s : Surface) : Type 0 where
   pub mesh : IsMesh s
   pub same : text ≡ byu_of s
 
 -- the first n lines are the first n lines of this valid mesh's text
 pub record BeginsAs (text : List ℕ) (n : ℕ) (s : Surface) : Type 0 where
   pub mesh : IsMesh s
-  pub same : take n (lines_of text) ≡ take n (lines_of (byu_of s))
+  pub same : take n (text_lines_of text) ≡ take n (text_lines_of (byu_of s))
 
 -- line n is the first such that no valid mesh's text begins with the lines up to it
-pub record IsAtFault (text : List ℕ) (n : ℕ) : Type 0 where
-  pub line : n ≤ length (lines_of text)
+pub record IsMeshAtFault (text : List ℕ) (n : ℕ) : Type 0 where
+  pub line : n ≤ length (text_lines_of text)
   pub before : (k : ℕ) → k < n → (s : Surface) × BeginsAs text k s
   pub none : (s : Surface) → BeginsAs text n s → ⊥
 
 -- no line is at fault, but the text is not that of a valid mesh; n is one past the last line
-pub record StopsTooSoon (text : List ℕ) (n : ℕ) : Type 0 where
-  pub past : n ≡ length (lines_of text) + 1
+pub record MeshStopsTooSoon (text : List ℕ) (n : ℕ) : Type 0 where
+  pub past : n ≡ length (text_lines_of text) + 1
   pub before : (k : ℕ) → k < n → (s : Surface) × BeginsAs text k s
-  pub none : (s : Surface) → ReadsAs text s → ⊥
+  pub none : (s : Surface) → ReadsAsMesh text s → ⊥
 
 -- the text has its fault at line n
-abbrev pub HasFault : List ℕ → ℕ → Type 0
-HasFault text n = IsAtFault text n ⊎ StopsTooSoon text n
+abbrev pub HasMeshFault : List ℕ → ℕ → Type 0
+HasMeshFault text n = IsMeshAtFault text n ⊎ MeshStopsTooSoon text n

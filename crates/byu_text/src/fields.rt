@@ -1,7 +1,7 @@
 //! Fields of fixed width.
 ghost use Rattle.std.specs.Prelude.{◌≡◌, ◌+◌, ◌<◌, ◌≤◌, ◌++◌, unsigned_abs, OnOk};
 ghost use Rattle.fku_types.specs.Points.{IsCoordinate, IsInRange};
-ghost use Rattle.byu_text.specs.Fields.{FitsField, number_field, sign, three_digits, coordinate_field, point_fields, IsFilled};
+ghost use Rattle.byu_text.specs.Fields.{FitsField, number_field, sign_byte, three_digits, coordinate_field, point_fields, IsFilled};
 
 use fku_types::{NoMemory, Point};
 use itoa::write_digits;
@@ -22,7 +22,7 @@ pub fn number_field(number: i32) -> [u8; 8]
 
 // A minus for a negative number, else a blank.
 fn sign(value: i32) -> u8
-    ensures { result ≡ sign value }
+    ensures { result ≡ sign_byte value }
 {
     if value < 0 { b'-' } else { b' ' }
 }

@@ -1,7 +1,7 @@
 //! The first line of a text, and where the other lines begin.
 ghost use Rattle.std.specs.Prelude.{◌≡◌, ◌+◌, ◌*◌, ◌/◌, ◌↔◌, IsTrue, MatchOption};
-ghost use Rattle.byu_text.specs.Pieces.{IsHead, head_line};
-ghost use Rattle.byu_text.specs.Stages.{counts_of, HasHead, NoneOf, points_at, polygons_at, end_at};
+ghost use Rattle.byu_text.specs.Pieces.{AreMeshCounts, mesh_head_line};
+ghost use Rattle.byu_text.specs.Stages.{counts_of, HasHead, NoneOf, point_lines_at, polygons_at, text_end_at};
 
 use crate::read_fields::{line_at, number_of};
 use fku_types::limits::{MAX_MESH_PARTS, MAX_MESH_TRIANGLES, MAX_MESH_VERTICES};
@@ -17,7 +17,7 @@ pub struct Head {
 impl Head {
     /// How many lines the vertices take.
     pub fn vertex_lines(self) -> usize
-        requires { IsHead (counts_of self) }
+        requires { AreMeshCounts (counts_of self) }
         ensures { result ≡ (self.vertices + 1) / 2 }
     {
         (self.vertices + 1) / 2
@@ -25,15 +25,15 @@ impl Head {
 
     /// Where the lines of the vertices begin.
     pub fn points_at(self) -> usize
-        requires { IsHead (counts_of self) }
-        ensures { result ≡ points_at (counts_of self) }
+        requires { AreMeshCounts (counts_of self) }
+        ensures { result ≡ point_lines_at (counts_of self) }
     {
         33 + 17 * self.parts
     }
 
     /// Where the lines of the polygons begin.
     pub fn polygons_at(self) -> usize
-        requires { IsHead (counts_of self) }
+        requires { AreMeshCounts (counts_of self) }
         ensures { result ≡ polygons_at (counts_of self) }
     {
         self.points_at() + 36 * self.vertices + self.vertex_lines()
@@ -41,8 +41,8 @@ impl Head {
 
     /// Where the text ends.
     pub fn end_at(self) -> usize
-        requires { IsHead (counts_of self) }
-        ensures { result ≡ end_at (counts_of self) }
+        requires { AreMeshCounts (counts_of self) }
+        ensures { result ≡ text_end_at (counts_of self) }
     {
         self.polygons_at() + 25 * self.polygons
     }
@@ -50,7 +50,7 @@ impl Head {
 
 // Whether a valid mesh has these counts.
 fn is_head(head: Head) -> bool
-    ensures { IsTrue result ↔ IsHead (counts_of head) }
+    ensures { IsTrue result ↔ AreMeshCounts (counts_of head) }
 {
     let Head {
         parts,
@@ -67,7 +67,7 @@ fn is_head(head: Head) -> bool
 
 /// The counts in the first line; none if no valid mesh's text begins with that line.
 pub fn read_head(text: &[u8]) -> Option<Head>
-    ensures { MatchOption result (NoneOf IsHead head_line text.now) (λ h. HasHead text.now (counts_of h)) }
+    ensures { MatchOption result (NoneOf AreMeshCounts mesh_head_line text.now) (λ h. HasHead text.now (counts_of h)) }
 {
     let line = line_at(text, 0, 32)?;
     let parts = number_of(&line[..8])? as usize;

@@ -2,7 +2,7 @@
 ghost use Rattle.std.specs.Prelude.{◌≡◌, ◌<◌, ◌^◌, ◌++◌, [], ◌∷◌, pos, codes, length, All, OnOk};
 ghost use Rattle.std.specs.List.{flat_map};
 ghost use Rattle.fku_types.specs.Points.{IsInRange};
-ghost use Rattle.byu_text.specs.Fields.{number_line, point_line};
+ghost use Rattle.byu_text.specs.Fields.{number_line, coordinates_line};
 ghost use Rattle.byu_text.specs.Numbers.{vertex_table};
 ghost use Rattle.byu_text.specs.Byu.{polygon_line};
 
@@ -56,7 +56,7 @@ pub fn put_triangle(
 /// Appends a line of points. The last height becomes that of the last of them.
 pub fn put_points(text: &mut Vec<u8>, height: &mut Height, points: &[Point]) -> Result<(), NoMemory>
     requires { All IsInRange points.now }
-    ensures { OnOk result (text.new.items ≡ text.old.items ++ point_line points.now) }
+    ensures { OnOk result (text.new.items ≡ text.old.items ++ coordinates_line points.now) }
 {
     for point in points {
         put_point(text, height, *point)?;

@@ -1,9 +1,9 @@
 //! The lines of the vertices.
 ghost use Rattle.std.specs.Prelude.{◌≡◌, ℕ, ◌+◌, ◌-◌, ◌*◌, ◌<◌, ◌≤◌, ◌^◌, ◌++◌, List, length, drop, MatchOption, IfOk, IfErr};
 ghost use Rattle.fku_types.specs.Points.{IsInRange};
-ghost use Rattle.byu_text.specs.Fields.{point_fields, point_line};
-ghost use Rattle.byu_text.specs.Stages.{counts_of, HasHead, HasSizes, HasPairs, HasPoints, AreNext, NoneOf};
-ghost use Rattle.byu_text.specs.Answers.{IsFaultOf};
+ghost use Rattle.byu_text.specs.Fields.{point_fields, coordinates_line};
+ghost use Rattle.byu_text.specs.Stages.{counts_of, HasHead, HasSizes, HasPointPairs, HasPoints, AreNext, NoneOf};
+ghost use Rattle.byu_text.specs.Answers.{IsMeshFault};
 ghost use Rattle.fku_types.specs.declared.points.Point.{Point};
 
 use crate::coordinates::coordinate_of;
@@ -27,8 +27,8 @@ fn point_of(fields: &[u8]) -> Option<Point>
 // The last vertex, if it has the line at a place to itself; none if no such line is there.
 fn one_at(text: &[u8], at: usize) -> Option<[Point; 1]>
     requires { at ≤ 10 ^ 8 }
-    ensures { MatchOption result (NoneOf (AreNext 1) point_line (drop at text.now)) (λ v.
-        AreNext 1 v × (drop at text.now ≡ point_line v ++ drop (at + 37) text.now)) }
+    ensures { MatchOption result (NoneOf (AreNext 1) coordinates_line (drop at text.now)) (λ v.
+        AreNext 1 v × (drop at text.now ≡ coordinates_line v ++ drop (at + 37) text.now)) }
 {
     let line = line_at(text, at, 36)?;
     Some([point_of(line)?])
@@ -37,8 +37,8 @@ fn one_at(text: &[u8], at: usize) -> Option<[Point; 1]>
 // The two vertices of the line at a place; none if no such line is there.
 fn two_at(text: &[u8], at: usize) -> Option<[Point; 2]>
     requires { at ≤ 10 ^ 8 }
-    ensures { MatchOption result (NoneOf (AreNext 2) point_line (drop at text.now)) (λ v.
-        AreNext 2 v × (drop at text.now ≡ point_line v ++ drop (at + 73) text.now)) }
+    ensures { MatchOption result (NoneOf (AreNext 2) coordinates_line (drop at text.now)) (λ v.
+        AreNext 2 v × (drop at text.now ≡ coordinates_line v ++ drop (at + 73) text.now)) }
 {
     let line = line_at(text, at, 72)?;
     let first = point_of(&line[..36])?;
@@ -50,8 +50,8 @@ fn two_at(text: &[u8], at: usize) -> Option<[Point; 2]>
 fn read_pairs(alloc: Global, text: &[u8], head: Head) -> Result<Vec<Point>, Fault>
     requires head { HasHead text.now (counts_of head) }
     requires sizes { (sizes : List ℕ) × HasSizes text.now (counts_of head) sizes }
-    ensures ok { IfOk result (λ v. HasPairs text.now (counts_of head) v.items) }
-    ensures err { IfErr result (IsFaultOf text.now) }
+    ensures ok { IfOk result (λ v. HasPointPairs text.now (counts_of head) v.items) }
+    ensures err { IfErr result (IsMeshFault text.now) }
 {
     let mut points = Vec::with_capacity(alloc, head.vertices)?;
     for pair in 0..head.vertices / 2 {
@@ -69,7 +69,7 @@ pub fn read_points(alloc: Global, text: &[u8], head: Head) -> Result<Vec<Point>,
     requires head { HasHead text.now (counts_of head) }
     requires sizes { (sizes : List ℕ) × HasSizes text.now (counts_of head) sizes }
     ensures ok { IfOk result (λ v. HasPoints text.now (counts_of head) v.items) }
-    ensures err { IfErr result (IsFaultOf text.now) }
+    ensures err { IfErr result (IsMeshFault text.now) }
 {
     let mut points = read_pairs(alloc, text, head)?;
     if head.vertices % 2 == 1 {

@@ -3,9 +3,9 @@ ghost use Rattle.std.specs.Prelude.{◌≡◌, ℕ, ◌+◌, ◌*◌, ◌<◌, �
 ghost use Rattle.fku_types.specs.declared.points.Point.{Point};
 ghost use Rattle.triangle_meshes.specs.Meshes.{triangle_lists};
 ghost use Rattle.byu_text.specs.Byu.{polygon_line};
-ghost use Rattle.byu_text.specs.Pieces.{IsHead, IsTriangle};
+ghost use Rattle.byu_text.specs.Pieces.{AreMeshCounts, IsKnownTriangle};
 ghost use Rattle.byu_text.specs.Stages.{counts_of, HasHead, HasSizes, HasPoints, HasTriangles, NoneOf, parts_in};
-ghost use Rattle.byu_text.specs.Answers.{IsFaultOf};
+ghost use Rattle.byu_text.specs.Answers.{IsMeshFault};
 
 use crate::head::Head;
 use crate::read_fields::{line_at, negative_id, number_of};
@@ -22,9 +22,9 @@ fn is_vertex(number: u32, head: Head) -> bool
 // The polygon of the line at a place; none if no such line is there.
 fn triangle_at(text: &[u8], at: usize, head: Head) -> Option<[u32; 3]>
     requires place { at ≤ 10 ^ 9 }
-    requires head { IsHead (counts_of head) }
-    ensures { MatchOption result (NoneOf (IsTriangle (counts_of head)) polygon_line (drop at text.now)) (λ t.
-        IsTriangle (counts_of head) t × (drop at text.now ≡ polygon_line t ++ drop (at + 25) text.now)) }
+    requires head { AreMeshCounts (counts_of head) }
+    ensures { MatchOption result (NoneOf (IsKnownTriangle (counts_of head)) polygon_line (drop at text.now)) (λ t.
+        IsKnownTriangle (counts_of head) t × (drop at text.now ≡ polygon_line t ++ drop (at + 25) text.now)) }
 {
     let line = line_at(text, at, 24)?;
     let a = number_of(&line[..8])?;
@@ -43,7 +43,7 @@ pub fn read_triangles(alloc: Global, text: &[u8], head: Head) -> Result<Vec<[u32
     requires sizes { (sizes : List ℕ) × HasSizes text.now (counts_of head) sizes }
     requires points { (points : List Point) × HasPoints text.now (counts_of head) points }
     ensures ok { IfOk result (λ v. HasTriangles text.now (counts_of head) v.items) }
-    ensures err { IfErr result (IsFaultOf text.now) }
+    ensures err { IfErr result (IsMeshFault text.now) }
 {
     let before = head.parts + head.vertex_lines();
     let start = head.polygons_at();

@@ -1,8 +1,8 @@
 //! Whole texts.
 ghost use Rattle.std.specs.Prelude.{ℕ, ◌≤◌, length, IfOk, IfErr};
 ghost use Rattle.triangle_meshes.specs.Meshes.{Surface, surface_of};
-ghost use Rattle.byu_text.specs.Reading.{ReadsAs, HasFault};
-ghost use Rattle.byu_text.specs.Answers.{IsFaultOf, IsMeshMemory, ReadsBack, Tells};
+ghost use Rattle.byu_text.specs.Reading.{ReadsAsMesh, HasMeshFault};
+ghost use Rattle.byu_text.specs.Answers.{IsMeshFault, IsMeshMemory, ReadsBackMesh, TellsMeshFault};
 
 use crate::head::read_head;
 use crate::points::read_points;
@@ -20,23 +20,23 @@ use triangle_meshes::Mesh;
 pub fn read_byu(alloc: Global, bytes: &[u8]) -> Result<Mesh, Fault>
     requires { length bytes.now ≤ MAX_MESH_BYTES }
     // The text is this mesh's.
-    ensures found { IfOk result (λ m. ReadsAs bytes.now (surface_of m)) }
+    ensures found { IfOk result (λ m. ReadsAsMesh bytes.now (surface_of m)) }
     // The text has this fault, or memory ran out.
-    ensures fault { IfErr result (IsFaultOf bytes.now) }
+    ensures fault { IfErr result (IsMeshFault bytes.now) }
     // A fault in the first line is reported whatever memory there is. What later lines say is kept while they are read,
     // so memory may run out before the line of the fault is seen.
     ensures memory { IfErr result (IsMeshMemory bytes.now) }
     // A text of a mesh gives the mesh, unless memory runs out.
-    ensures given { (s : Surface) → ReadsAs bytes.now s → ReadsBack s result }
+    ensures given { (s : Surface) → ReadsAsMesh bytes.now s → ReadsBackMesh s result }
     // A text with a fault gives this fault, unless memory runs out.
-    ensures told { (n : ℕ) → HasFault bytes.now n → Tells n result }
+    ensures told { (n : ℕ) → HasMeshFault bytes.now n → TellsMeshFault n result }
 {
     read_mesh(alloc, bytes)
 }
 
 fn read_mesh(alloc: Global, text: &[u8]) -> Result<Mesh, Fault>
-    ensures found { IfOk result (λ m. ReadsAs text.now (surface_of m)) }
-    ensures fault { IfErr result (IsFaultOf text.now) }
+    ensures found { IfOk result (λ m. ReadsAsMesh text.now (surface_of m)) }
+    ensures fault { IfErr result (IsMeshFault text.now) }
     ensures memory { IfErr result (IsMeshMemory text.now) }
 {
     let Some(head) = read_head(text) else {

@@ -1,9 +1,9 @@
 //! Laws: a written mesh can be read back, and a text has one reading.
 ghost use Rattle.std.specs.Prelude.{◌≡◌, ℕ, ◌≤◌, List, length, All, IfOk, IfErr};
 ghost use Rattle.triangle_meshes.specs.Meshes.{Surface, surface_of, IsValid};
-ghost use Rattle.byu_text.specs.Lines.{lines_of};
-ghost use Rattle.byu_text.specs.Reading.{BeginsAs, ReadsAs, HasFault};
-ghost use Rattle.byu_text.specs.Fronts.{HasFront};
+ghost use Rattle.byu_text.specs.Lines.{text_lines_of};
+ghost use Rattle.byu_text.specs.Reading.{BeginsAs, ReadsAsMesh, HasMeshFault};
+ghost use Rattle.byu_text.specs.Fronts.{HasMeshFront};
 ghost use Rattle.fku_types.specs.declared.fault.Fault.TheVariants.{NoMemory};
 
 use crate::reading::read_byu;
@@ -41,17 +41,17 @@ pub fn read_back(alloc: Global, mesh: &Mesh) -> Result<Mesh, Fault>
 
 /// A text is that of at most one mesh, has its fault at one line at most, and never both.
 pub fn texts_have_one_reading()
-    ensures mesh { (text : List ℕ) (s r : Surface) → ReadsAs text s → ReadsAs text r → s ≡ r }
-    ensures line { (text : List ℕ) (m n : ℕ) → HasFault text m → HasFault text n → m ≡ n }
-    ensures either { (text : List ℕ) (s : Surface) (n : ℕ) → ReadsAs text s → HasFault text n → ⊥ }
+    ensures mesh { (text : List ℕ) (s r : Surface) → ReadsAsMesh text s → ReadsAsMesh text r → s ≡ r }
+    ensures line { (text : List ℕ) (m n : ℕ) → HasMeshFault text m → HasMeshFault text n → m ≡ n }
+    ensures either { (text : List ℕ) (s : Surface) (n : ℕ) → ReadsAsMesh text s → HasMeshFault text n → ⊥ }
 {}
 
 /// The first lines of a text are those of some valid mesh's text exactly if they are those of a front.
 pub fn first_lines_tell_a_front()
-    ensures told { (text : List ℕ) (n : ℕ) → n ≤ length (lines_of text)
+    ensures told { (text : List ℕ) (n : ℕ) → n ≤ length (text_lines_of text)
         → ((s : Surface) × BeginsAs text n s)
-        → HasFront text n }
-    ensures made { (text : List ℕ) (n : ℕ) → n ≤ length (lines_of text)
-        → HasFront text n
+        → HasMeshFront text n }
+    ensures made { (text : List ℕ) (n : ℕ) → n ≤ length (text_lines_of text)
+        → HasMeshFront text n
         → (s : Surface) × BeginsAs text n s }
 {}

@@ -2,7 +2,7 @@
 ghost use Rattle.std.specs.Prelude.{◌≡◌, ◌+◌, ◌-◌, ◌*◌, ◌<◌, ◌≤◌, ◌^◌, ◌++◌, ◌↔◌, IsTrue, drop, MatchOption, IfOk, IfErr};
 ghost use Rattle.byu_text.specs.Pieces.{size_line};
 ghost use Rattle.byu_text.specs.Stages.{counts_of, HasHead, HasSizes, IsSize, NoneOf};
-ghost use Rattle.byu_text.specs.Answers.{IsFaultOf};
+ghost use Rattle.byu_text.specs.Answers.{IsMeshFault};
 
 use crate::head::Head;
 use crate::read_fields::{line_at, number_of};
@@ -48,7 +48,7 @@ fn size_at(text: &[u8], at: usize, first: usize, left: usize, later: usize) -> O
 pub fn read_sizes(alloc: Global, text: &[u8], head: Head) -> Result<Vec<usize>, Fault>
     requires { HasHead text.now (counts_of head) }
     ensures ok { IfOk result (λ v. HasSizes text.now (counts_of head) v.items) }
-    ensures err { IfErr result (IsFaultOf text.now) }
+    ensures err { IfErr result (IsMeshFault text.now) }
 {
     let mut sizes = Vec::with_capacity(alloc, head.parts)?;
     let mut first = 1;

@@ -4,7 +4,7 @@ ghost use Rattle.std.specs.List.{flat_map};
 ghost use Rattle.fku_types.specs.Points.{IsInRange};
 ghost use Rattle.triangle_meshes.specs.Meshes.{surface_of, triangle_lists, IsValid};
 ghost use Rattle.byu_text.specs.Numbers.{vertex_table};
-ghost use Rattle.byu_text.specs.Byu.{counts_line, part_lines, vertex_lines, polygon_line, byu_of};
+ghost use Rattle.byu_text.specs.Byu.{counts_line, part_ranges, vertex_lines, polygon_line, byu_of};
 
 use crate::fields::{Height, number_field};
 use crate::lines::{put_fields, put_part, put_points, put_triangle};
@@ -38,7 +38,7 @@ fn write_counts(text: &mut Vec<u8>, mesh: &Mesh, polygons: usize) -> Result<(), 
 
 fn write_parts(text: &mut Vec<u8>, parts: &[Vec<[u32; 3]>]) -> Result<(), NoMemory>
     requires { sum_by length (triangle_lists parts.now) ≤ MAX_MESH_TRIANGLES }
-    ensures { OnOk result (text.new.items ≡ text.old.items ++ part_lines 1 (triangle_lists parts.now)) }
+    ensures { OnOk result (text.new.items ≡ text.old.items ++ part_ranges 1 (triangle_lists parts.now)) }
 {
     let mut next = 1;
     for part in parts {

@@ -9,8 +9,8 @@ use Rattle.strip_graph.specs.declared.tilings.Step.{Step}
 use Rattle.strip_graph.specs.declared.tilings.Step.TheVariants.{V}
 use Rattle.strip_graph.specs.Certificates.{IsModest}
 use Rattle.text_io.specs.WordLists.{Word, Matches, Line}
-use Rattle.cert_checker.specs.CertTexts.{CertHead, CertParts, IsHead, IsWord, IsLawful, head_line, word_line, row_line, end_line, rows_in, value_lines, cert_lines}
-use Rattle.cert_checker.specs.CertReading.{Begins}
+use Rattle.cert_checker.specs.CertTexts.{CertHead, CertParts, IsHead, IsWord, IsLawfulCertificate, head_line, word_line, row_line, certificate_end, rows_in, value_lines, cert_lines}
+use Rattle.cert_checker.specs.CertReading.{BeginsCertificate}
 use Rattle.cert_checker.specs.LineSteps.{first_lines}
 use Rattle.cert_checker.proofs.RowLists.{rows_same, row_put, rows_begin}
 
@@ -27,7 +27,7 @@ few_rows h k le = mul-le-mul_right (h.cols + 1) le
 zero_modest : IsModest (pos 0)
 zero_modest = omega arith
 
-pub filled_lawful : (h : CertHead) (w : List Step) (k : ℕ) (v : List ℤ) → IsHead h → IsWord w → k ≤ 2 * h.rows → length v ≡ k * (h.cols + 1) → All IsModest v → IsLawful (filled h w k v)
+pub filled_lawful : (h : CertHead) (w : List Step) (k : ℕ) (v : List ℤ) → IsHead h → IsWord w → k ≤ 2 * h.rows → length v ≡ k * (h.cols + 1) → All IsModest v → IsLawfulCertificate (filled h w k v)
 filled_lawful h w k v ih iw le n m =
     record {
       head = ih;
@@ -51,7 +51,7 @@ continued h w k v le n =
     let e : 2 * h.rows ≡ k + j = omega (arith, le) in
     let same : rows_in width (2 * h.rows) all ≡ rows_in width k v ++ b.later =
     ap (λ (x : ℕ). rows_in width x all) e ∙ b.same ∙ ap (λ (rs : List (List ℤ)). rs ++ b.later) (rows_same width k v zeros (omega (arith, n))) in
-    let ends = end_line ∷ [] in
+    let ends = certificate_end ∷ [] in
     record {
       rest = map row_line b.later ++ ends;
       split = ap (λ (ls : List (List Word)). head_line h ∷ word_line w ∷ ls)
@@ -70,23 +70,23 @@ some_head_is : IsHead some_head
 some_head_is = record { pair = (omega arith, omega arith); rows = (omega arith, omega arith); cols = (omega arith, omega arith); cost = omega arith; start = omega arith }
 
 -- lines that match a front of a certificate's lines begin one
-pub begins_none : (lines : List Line) → AllZip Matches lines [] → Begins lines
+pub begins_none : (lines : List Line) → AllZip Matches lines [] → BeginsCertificate lines
 begins_none lines m =
     let C = filled some_head (V ∷ []) 0 [] in
     record { cert = C; lawful = filled_lawful some_head (V ∷ []) 0 [] some_head_is one_letter (omega arith) refl (All-nil IsModest); front = []; rest = cert_lines C; split = refl; match = m }
 
-pub begins_head : (h : CertHead) → IsHead h → (lines : List Line) → AllZip Matches lines (head_line h ∷ []) → Begins lines
+pub begins_head : (h : CertHead) → IsHead h → (lines : List Line) → AllZip Matches lines (head_line h ∷ []) → BeginsCertificate lines
 begins_head h ih lines m =
     let C = filled h (V ∷ []) 0 [] in
     let none : 0 ≡ 0 * (h.cols + 1) = omega arith in
-    record { cert = C; lawful = filled_lawful h (V ∷ []) 0 [] ih one_letter (omega arith) none (All-nil IsModest); front = head_line h ∷ []; rest = word_line (V ∷ []) ∷ (value_lines C ++ end_line ∷ []); split = refl; match = m }
+    record { cert = C; lawful = filled_lawful h (V ∷ []) 0 [] ih one_letter (omega arith) none (All-nil IsModest); front = head_line h ∷ []; rest = word_line (V ∷ []) ∷ (value_lines C ++ certificate_end ∷ []); split = refl; match = m }
 
-pub begins_rows : (h : CertHead) (w : List Step) (k : ℕ) (v : List ℤ) → IsHead h → IsWord w → k ≤ 2 * h.rows → length v ≡ k * (h.cols + 1) → All IsModest v → (lines : List Line) → AllZip Matches lines (first_lines h w k v) → Begins lines
+pub begins_rows : (h : CertHead) (w : List Step) (k : ℕ) (v : List ℤ) → IsHead h → IsWord w → k ≤ 2 * h.rows → length v ≡ k * (h.cols + 1) → All IsModest v → (lines : List Line) → AllZip Matches lines (first_lines h w k v) → BeginsCertificate lines
 begins_rows h w k v ih iw le n m lines z =
     let c = continued h w k v le n in
     record { cert = filled h w k v; lawful = filled_lawful h w k v ih iw le n m; front = first_lines h w k v; rest = c.rest; split = c.split; match = z }
 
-pub begins_whole : (C : CertParts) → IsLawful C → (lines : List Line) → AllZip Matches lines (cert_lines C) → Begins lines
+pub begins_whole : (C : CertParts) → IsLawfulCertificate C → (lines : List Line) → AllZip Matches lines (cert_lines C) → BeginsCertificate lines
 begins_whole C l lines z = record { cert = C; lawful = l; front = cert_lines C; rest = []; split = sym (append-nil (cert_lines C)); match = z }
 
 -- the first lines with one row more

@@ -3,10 +3,10 @@ use Rattle.std.proofs.Common.{◌≡◌, ℕ, ℤ, pos, List, [], ◌∷◌, ◌
 use Rattle.std.specs.Prelude.{codes}
 use Rattle.text_io.specs.WordLists.{Word, text, number, Matches, Line}
 use Rattle.cert_checker.specs.CertTexts.{CertHead, named, head_line}
-use Rattle.cert_checker.specs.LineSteps.{IsNamed, NoneNamed}
+use Rattle.cert_checker.specs.LineSteps.{HasNumberAfter, NoneNamed}
 
 -- the number that was read after a keyword is the only one
-pub named_one : (ws : Line) (k : List ℕ) (z : ℤ) (more : Line) (k' : List ℕ) (z' : ℤ) (ps : List Word) → IsNamed ws k z more → Matches ws (text k' ∷ number z' ∷ ps) → (z' ≡ z) × Matches more ps
+pub named_one : (ws : Line) (k : List ℕ) (z : ℤ) (more : Line) (k' : List ℕ) (z' : ℤ) (ps : List Word) → HasNumberAfter ws k z more → Matches ws (text k' ∷ number z' ∷ ps) → (z' ≡ z) × Matches more ps
 named_one ws k z more k' z' ps n m =
     let h = subst (λ (x : Line). Matches x (text k' ∷ number z' ∷ ps)) n.words m in
     let e : Some z' ≡ Some z = sym h.1.0 ∙ n.says in
@@ -15,7 +15,7 @@ named_one ws k z more k' z' ps n m =
 -- words that match a keyword and a number
 pub record NamedRest (ws : Line) (k : List ℕ) (z : ℤ) (ps : List Word) : Type 0 where
   pub more : Line
-  pub named : IsNamed ws k z more
+  pub named : HasNumberAfter ws k z more
   pub rest : Matches more ps
 
 pub named_is : (ws : Line) (k : List ℕ) (z : ℤ) (ps : List Word) → Matches ws (text k ∷ number z ∷ ps) → NamedRest ws k z ps
@@ -23,7 +23,7 @@ named_is [] k z ps m = absurd m
 named_is (a ∷ []) k z ps m = absurd m.1
 named_is (a ∷ b ∷ more) k z ps m = record { more = more; named = record { word = b; words = ap (λ (x : List ℕ). x ∷ b ∷ more) m.0; says = m.1.0 }; rest = m.1.1 }
 
-pub named_tail : (ws : Line) (k : List ℕ) (z : ℤ) (more : Line) (z' : ℤ) (ps : List Word) → IsNamed ws k z more → Matches ws (text k ∷ number z' ∷ ps) → Matches more ps
+pub named_tail : (ws : Line) (k : List ℕ) (z : ℤ) (more : Line) (z' : ℤ) (ps : List Word) → HasNumberAfter ws k z more → Matches ws (text k ∷ number z' ∷ ps) → Matches more ps
 named_tail ws k z more z' ps n m = (named_one ws k z more k z' ps n m).1
 
 pub named_none : (P : ℤ → Type 0) (ws : Line) (k : List ℕ) (z : ℤ) (ps : List Word) → NoneNamed P ws k → P z → Matches ws (text k ∷ number z ∷ ps) → ⊥

@@ -9,8 +9,8 @@ use Rattle.std.proofs.lemmas.List.Elements.{All-get_or}
 use Rattle.std.proofs.lemmas.Slice.Zip.{AllZip-long}
 use Rattle.strip_graph.specs.declared.tilings.Step.{Step}
 use Rattle.text_io.specs.WordLists.{Word, Matches, Line}
-use Rattle.cert_checker.specs.CertTexts.{CertHead, CertParts, IsHead, IsWord, IsRow, IsLawful, head_line, word_line, row_line, end_line, rows_in, value_lines, cert_lines}
-use Rattle.cert_checker.specs.CertReading.{Begins}
+use Rattle.cert_checker.specs.CertTexts.{CertHead, CertParts, IsHead, IsWord, IsValueRow, IsLawfulCertificate, head_line, word_line, row_line, certificate_end, rows_in, value_lines, cert_lines}
+use Rattle.cert_checker.specs.CertReading.{BeginsCertificate}
 use Rattle.cert_checker.specs.LineSteps.{first_lines}
 use Rattle.cert_checker.proofs.HeadLines.{head_one}
 use Rattle.cert_checker.proofs.RowLists.{rows_count, rows_begin, rows_each}
@@ -31,7 +31,7 @@ pub record RowsForced (one : Line) (more : List Line) (C : CertParts) : Type 0 w
   pub head : Matches one (head_line C.head)
   pub front : List (List Word)
   pub rest : List (List Word)
-  pub split : value_lines C ++ end_line ∷ [] ≡ front ++ rest
+  pub split : value_lines C ++ certificate_end ∷ [] ≡ front ++ rest
   pub match : AllZip Matches more front
 
 rows_forced : (one two : Line) (more : List Line) (front rest : List (List Word)) (C : CertParts) → cert_lines C ≡ front ++ rest → AllZip Matches (one ∷ two ∷ more) front → RowsForced one more C
@@ -39,7 +39,7 @@ rows_forced one two more [] rest C e m = absurd m
 rows_forced one two more (f ∷ []) rest C e m = absurd m.1
 rows_forced one two more (f ∷ g ∷ fs) rest C e m =
     let q : head_line C.head ≡ f = cc in
-    let r : value_lines C ++ end_line ∷ [] ≡ fs ++ rest = cc in
+    let r : value_lines C ++ certificate_end ∷ [] ≡ fs ++ rest = cc in
     record { head = subst (Matches one) (sym q) m.0; front = fs; rest = rest; split = r; match = m.1.1 }
 
 -- the line at a place of a front
@@ -54,11 +54,11 @@ at_place (l ∷ ls) line (f ∷ fs) rest (r ∷ qs) q more m e n = let p : fs ++
 -- a row of a lawful certificate
 pub record RowAt (C : CertParts) (k : ℕ) : Type 0 where
   pub row : List ℤ
-  pub is_row : IsRow (C.head.cols + 1) row
+  pub is_row : IsValueRow (C.head.cols + 1) row
   pub later : List (List Word)
-  pub split : value_lines C ++ end_line ∷ [] ≡ map row_line (rows_in (C.head.cols + 1) k C.values) ++ row_line row ∷ later
+  pub split : value_lines C ++ certificate_end ∷ [] ≡ map row_line (rows_in (C.head.cols + 1) k C.values) ++ row_line row ∷ later
 
-row_at : (C : CertParts) (k : ℕ) → IsLawful C → k < 2 * C.head.rows → RowAt C k
+row_at : (C : CertParts) (k : ℕ) → IsLawfulCertificate C → k < 2 * C.head.rows → RowAt C k
 row_at C k l lt =
     let width = C.head.cols + 1 in
     let j = 2 * C.head.rows - suc k in
@@ -71,10 +71,10 @@ row_at C k l lt =
     let each = rows_each width (suc k) C.values room l.values in
     let here : get_or (before ++ row ∷ []) k [] ≡ row = get_or_at before row [] [] k (rows_count width k C.values) in
     let inside : k < length (rows_in width (suc k) C.values) = omega (arith, rows_count width (suc k) C.values) in
-    let ends = end_line ∷ [] in
+    let ends = certificate_end ∷ [] in
     record {
       row = row;
-      is_row = subst (IsRow width) here (All-get_or (IsRow width) (rows_in width (suc k) C.values) k [] inside each);
+      is_row = subst (IsValueRow width) here (All-get_or (IsValueRow width) (rows_in width (suc k) C.values) k [] inside each);
       later = map row_line b.later ++ ends;
       split = ap (λ (rs : List (List ℤ)). map row_line rs ++ ends) (ap (λ (n : ℕ). rows_in width n C.values) e ∙ b.same ∙ append_assoc before (row ∷ []) b.later)
           ∙ ap (λ (ls : List (List Word)). ls ++ ends) (map-append row_line before (row ∷ b.later))
@@ -82,12 +82,12 @@ row_at C k l lt =
     }
 
 -- only a first line begins a front
-pub stuck_head : (line : Line) → ((h : CertHead) → IsHead h → Matches line (head_line h) → ⊥) → (before : List Line) → AllZip Matches before [] → Begins (before ++ line ∷ []) → ⊥
+pub stuck_head : (line : Line) → ((h : CertHead) → IsHead h → Matches line (head_line h) → ⊥) → (before : List Line) → AllZip Matches before [] → BeginsCertificate (before ++ line ∷ []) → ⊥
 stuck_head line none [] z b = none b.cert.head b.lawful.head (front_head line [] b.front b.rest b.cert b.split b.match)
 stuck_head line none (l ∷ ls) z b = absurd z
 
 -- only a word continues a first line
-pub stuck_word : (h : CertHead) (line : Line) → ((w : List Step) → IsWord w → Matches line (word_line w) → ⊥) → (before : List Line) → AllZip Matches before (head_line h ∷ []) → Begins (before ++ line ∷ []) → ⊥
+pub stuck_word : (h : CertHead) (line : Line) → ((w : List Step) → IsWord w → Matches line (word_line w) → ⊥) → (before : List Line) → AllZip Matches before (head_line h ∷ []) → BeginsCertificate (before ++ line ∷ []) → ⊥
 stuck_word h line none [] z b = absurd z
 stuck_word h line none (one ∷ []) z b = none b.cert.word b.lawful.word (word_forced one line b.front b.rest b.cert b.split b.match)
 stuck_word h line none (one ∷ two ∷ ls) z b = absurd z.1
@@ -96,7 +96,7 @@ same_size : (h g : CertHead) → g ≡ h → (2 * g.rows ≡ 2 * h.rows) × (g.c
 same_size h g e = (ap (λ (x : CertHead). 2 * x.rows) e, ap (λ (x : CertHead). x.cols + 1) e)
 
 -- only a row continues rows
-pub stuck_row : (h : CertHead) (w : List Step) (k : ℕ) (v : List ℤ) (line : Line) → k < 2 * h.rows → ((row : List ℤ) → IsRow (h.cols + 1) row → Matches line (row_line row) → ⊥) → (before : List Line) → AllZip Matches before (first_lines h w k v) → Begins (before ++ line ∷ []) → ⊥
+pub stuck_row : (h : CertHead) (w : List Step) (k : ℕ) (v : List ℤ) (line : Line) → k < 2 * h.rows → ((row : List ℤ) → IsValueRow (h.cols + 1) row → Matches line (row_line row) → ⊥) → (before : List Line) → AllZip Matches before (first_lines h w k v) → BeginsCertificate (before ++ line ∷ []) → ⊥
 stuck_row h w k v line lt none [] z b = absurd z
 stuck_row h w k v line lt none (one ∷ []) z b = absurd z.1
 stuck_row h w k v line lt none (one ∷ two ∷ ls) z b =
@@ -106,10 +106,10 @@ stuck_row h w k v line lt none (one ∷ two ∷ ls) z b =
     let qs = map row_line (rows_in (b.cert.head.cols + 1) k b.cert.values) in
     let long : length qs ≡ length ls =
     omega (arith, length-map (rows_in (b.cert.head.cols + 1) k b.cert.values) row_line, rows_count (b.cert.head.cols + 1) k b.cert.values, AllZip-long Matches ls (map row_line (rows_in (h.cols + 1) k v)) z.1.1, length-map (rows_in (h.cols + 1) k v) row_line, rows_count (h.cols + 1) k v) in
-    none r.row (subst (λ (n : ℕ). IsRow n r.row) same.1 r.is_row) (at_place ls line f.front f.rest qs (row_line r.row) r.later f.match (sym f.split ∙ r.split) long)
+    none r.row (subst (λ (n : ℕ). IsValueRow n r.row) same.1 r.is_row) (at_place ls line f.front f.rest qs (row_line r.row) r.later f.match (sym f.split ∙ r.split) long)
 
 -- only END continues all rows
-pub stuck_end : (h : CertHead) (w : List Step) (v : List ℤ) (line : Line) → (Matches line end_line → ⊥) → (before : List Line) → AllZip Matches before (first_lines h w (2 * h.rows) v) → Begins (before ++ line ∷ []) → ⊥
+pub stuck_end : (h : CertHead) (w : List Step) (v : List ℤ) (line : Line) → (Matches line certificate_end → ⊥) → (before : List Line) → AllZip Matches before (first_lines h w (2 * h.rows) v) → BeginsCertificate (before ++ line ∷ []) → ⊥
 stuck_end h w v line none [] z b = absurd z
 stuck_end h w v line none (one ∷ []) z b = absurd z.1
 stuck_end h w v line none (one ∷ two ∷ ls) z b =
@@ -118,23 +118,23 @@ stuck_end h w v line none (one ∷ two ∷ ls) z b =
     let qs = value_lines b.cert in
     let long : length qs ≡ length ls =
     omega (arith, length-map (rows_in (b.cert.head.cols + 1) (2 * b.cert.head.rows) b.cert.values) row_line, rows_count (b.cert.head.cols + 1) (2 * b.cert.head.rows) b.cert.values, AllZip-long Matches ls (map row_line (rows_in (h.cols + 1) (2 * h.rows) v)) z.1.1, length-map (rows_in (h.cols + 1) (2 * h.rows) v) row_line, rows_count (h.cols + 1) (2 * h.rows) v, same.0) in
-    none (at_place ls line f.front f.rest qs end_line [] f.match (sym f.split) long)
+    none (at_place ls line f.front f.rest qs certificate_end [] f.match (sym f.split) long)
 
 lines_count : (h : CertHead) (w : List Step) (k : ℕ) (v : List ℤ) → length (first_lines h w k v) ≡ 2 + k
 lines_count h w k v = omega (arith, length-map (rows_in (h.cols + 1) k v) row_line, rows_count (h.cols + 1) k v)
 
 cert_count : (C : CertParts) → length (cert_lines C) ≡ 3 + 2 * C.head.rows
-cert_count C = omega (arith, length-append (value_lines C) (end_line ∷ []), length-map (rows_in (C.head.cols + 1) (2 * C.head.rows) C.values) row_line, rows_count (C.head.cols + 1) (2 * C.head.rows) C.values)
+cert_count C = omega (arith, length-append (value_lines C) (certificate_end ∷ []), length-map (rows_in (C.head.cols + 1) (2 * C.head.rows) C.values) row_line, rows_count (C.head.cols + 1) (2 * C.head.rows) C.values)
 
 -- nothing continues a whole certificate
-pub stuck_past : (h : CertHead) (w : List Step) (v : List ℤ) (line : Line) (before : List Line) → AllZip Matches before (first_lines h w (2 * h.rows) v ++ end_line ∷ []) → Begins (before ++ line ∷ []) → ⊥
+pub stuck_past : (h : CertHead) (w : List Step) (v : List ℤ) (line : Line) (before : List Line) → AllZip Matches before (first_lines h w (2 * h.rows) v ++ certificate_end ∷ []) → BeginsCertificate (before ++ line ∷ []) → ⊥
 stuck_past h w v line [] z b = absurd z
 stuck_past h w v line (one ∷ ls) z b =
     let same = same_size h b.cert.head (head_one one h b.cert.head z.0 (front_head one (ls ++ line ∷ []) b.front b.rest b.cert b.split b.match)) in
     omega (
       arith,
-      AllZip-long Matches (one ∷ ls) (first_lines h w (2 * h.rows) v ++ end_line ∷ []) z,
-      length-append (first_lines h w (2 * h.rows) v) (end_line ∷ []),
+      AllZip-long Matches (one ∷ ls) (first_lines h w (2 * h.rows) v ++ certificate_end ∷ []) z,
+      length-append (first_lines h w (2 * h.rows) v) (certificate_end ∷ []),
       lines_count h w (2 * h.rows) v,
       AllZip-long Matches ((one ∷ ls) ++ line ∷ []) b.front b.match,
       length-append (one ∷ ls) (line ∷ []),

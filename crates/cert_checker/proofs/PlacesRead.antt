@@ -7,7 +7,7 @@ use Rattle.std.proofs.lemmas.Slice.Zip.{all_zipped_more}
 use Rattle.text_io.specs.Text.{lines, words, kept_from, IsKeptLineAt}
 use Rattle.text_io.specs.WordLists.{Word, Matches, Line, Kept, lines_of}
 use Rattle.cert_checker.specs.CertTexts.{CertParts, cert_lines}
-use Rattle.cert_checker.specs.CertReading.{kept_behind, last_line, Begins, HasFault}
+use Rattle.cert_checker.specs.CertReading.{kept_behind, last_line, BeginsCertificate, HasCertificateFault}
 use Rattle.cert_checker.specs.LineSteps.{HasRead}
 
 -- nothing was read yet
@@ -32,7 +32,7 @@ line_read passed text at n number first end next read form r k m =
     }
 
 -- a line that continues nothing is at fault
-pub line_fault : (passed : ℕ) (text : List ℕ) (at n number first end next : ℕ) (read : List (List Word)) → HasRead passed text at n read → IsKeptLineAt text at n number first end next → ((before : List Line) → AllZip Matches before read → Begins before) → ((before : List Line) → AllZip Matches before read → Begins (before ++ words (slice_range text first end) ∷ []) → ⊥) → HasFault (kept_behind passed text) (last_line passed text) number
+pub line_fault : (passed : ℕ) (text : List ℕ) (at n number first end next : ℕ) (read : List (List Word)) → HasRead passed text at n read → IsKeptLineAt text at n number first end next → ((before : List Line) → AllZip Matches before read → BeginsCertificate before) → ((before : List Line) → AllZip Matches before read → BeginsCertificate (before ++ words (slice_range text first end) ∷ []) → ⊥) → HasCertificateFault (kept_behind passed text) (last_line passed text) number
 line_fault passed text at n number first end next read r k begins stuck =
     inl
     (record {
@@ -51,7 +51,7 @@ all_read passed text at n read r e =
     subst (λ (ls : List Line). AllZip Matches ls read) (sym whole) r.match
 
 -- a text that ends before all lines stops too soon
-pub stop_fault : (passed : ℕ) (text : List ℕ) (at n : ℕ) (read : List (List Word)) → HasRead passed text at n read → kept_from (n + 1) (lines (drop at text)) ≡ [] → ((before : List Line) → AllZip Matches before read → Begins before) → ((C : CertParts) (before : List Line) → AllZip Matches before read → AllZip Matches before (cert_lines C) → ⊥) → HasFault (kept_behind passed text) (last_line passed text) (n + length (lines (drop at text)) + 1)
+pub stop_fault : (passed : ℕ) (text : List ℕ) (at n : ℕ) (read : List (List Word)) → HasRead passed text at n read → kept_from (n + 1) (lines (drop at text)) ≡ [] → ((before : List Line) → AllZip Matches before read → BeginsCertificate before) → ((C : CertParts) (before : List Line) → AllZip Matches before read → AllZip Matches before (cert_lines C) → ⊥) → HasCertificateFault (kept_behind passed text) (last_line passed text) (n + length (lines (drop at text)) + 1)
 stop_fault passed text at n read r e begins short =
     let all = all_read passed text at n read r e in
     inr

@@ -14,7 +14,7 @@ use Rattle.strip_graph.specs.declared.tilings.Step.TheVariants.{V, H}
 use Rattle.strip_graph.specs.Certificates.{IsModest}
 use Rattle.text_io.specs.Text.{words, is_kept, kept_from}
 use Rattle.text_io.specs.WordLists.{number, spaced, line_text, IsWritable, IsWritableLine, Line, lines_of}
-use Rattle.cert_checker.specs.CertTexts.{CertHead, CertParts, IsHead, IsWord, IsRow, IsLawful, letter, head_line, word_line, row_line, end_line, rows_in, value_lines, cert_lines, cert_text}
+use Rattle.cert_checker.specs.CertTexts.{CertHead, CertParts, IsHead, IsWord, IsValueRow, IsLawfulCertificate, letter, head_line, word_line, row_line, certificate_end, rows_in, value_lines, cert_lines, cert_text}
 use Rattle.cert_checker.specs.LineSteps.{after_blank}
 use Rattle.cert_checker.proofs.RowLists.{rows_each}
 
@@ -82,20 +82,20 @@ values_writable : (xs : List ℤ) → AllByRecursion IsModest xs → AllByRecurs
 values_writable [] h = tt
 values_writable (x ∷ xs) h = (value_writable x h.0, values_writable xs h.1)
 
-row_writable : (w : ℕ) (xs : List ℤ) → 0 < w → IsRow w xs → IsWritableLine (row_line xs)
+row_writable : (w : ℕ) (xs : List ℤ) → 0 < w → IsValueRow w xs → IsWritableLine (row_line xs)
 row_writable w xs some r = (omega (arith, length-map xs number, r.0, some), values_writable xs (recursion_from_All IsModest xs r.1))
 
-rows_writable : (w : ℕ) (rs : List (List ℤ)) → 0 < w → AllByRecursion (IsRow w) rs → AllByRecursion IsWritableLine (map row_line rs ++ end_line ∷ [])
+rows_writable : (w : ℕ) (rs : List (List ℤ)) → 0 < w → AllByRecursion (IsValueRow w) rs → AllByRecursion IsWritableLine (map row_line rs ++ certificate_end ∷ [])
 rows_writable w [] some h = ((omega arith, ((omega arith, all_from (codes "END") refl), tt)), tt)
 rows_writable w (r ∷ rs) some h = (row_writable w r some h.0, rows_writable w rs some h.1)
 
-pub each_row : (C : CertParts) → IsLawful C → AllByRecursion (IsRow (C.head.cols + 1)) (rows_in (C.head.cols + 1) (2 * C.head.rows) C.values)
+pub each_row : (C : CertParts) → IsLawfulCertificate C → AllByRecursion (IsValueRow (C.head.cols + 1)) (rows_in (C.head.cols + 1) (2 * C.head.rows) C.values)
 each_row C l =
     let w = C.head.cols + 1 in
     let k = 2 * C.head.rows in
-    recursion_from_All (IsRow w) (rows_in w k C.values) (rows_each w k C.values (omega (arith, l.count)) l.values)
+    recursion_from_All (IsValueRow w) (rows_in w k C.values) (rows_each w k C.values (omega (arith, l.count)) l.values)
 
-pub lines_writable : (C : CertParts) → IsLawful C → AllByRecursion IsWritableLine (cert_lines C)
+pub lines_writable : (C : CertParts) → IsLawfulCertificate C → AllByRecursion IsWritableLine (cert_lines C)
 lines_writable C l = (
   head_writable C.head l.head,
   (word_writable C.word l.word, rows_writable (C.head.cols + 1) (rows_in (C.head.cols + 1) (2 * C.head.rows) C.values) (omega arith) (each_row C l)),
@@ -113,7 +113,7 @@ text_parts C o n1 n2 n3 n4 e1 e2 e3 e4 =
     ∙ append_assoc ((o ++ a) ++ b) c e
     ∙ append_assoc (o ++ a) b (c ++ e)
     ∙ append_assoc o a (b ++ (c ++ e))
-    ∙ sym (ap (λ (x : List ℕ). o ++ (a ++ (b ++ x))) (flat_map-append line_text (value_lines C) (end_line ∷ [])))
+    ∙ sym (ap (λ (x : List ℕ). o ++ (a ++ (b ++ x))) (flat_map-append line_text (value_lines C) (certificate_end ∷ [])))
 
 -- the numbers of a row, with a blank before each but the first
 pub row_text : (x : ℤ) (xs : List ℤ) → spaced (row_line (x ∷ xs)) ≡ signed_decimal x ++ flat_map after_blank xs

@@ -6,7 +6,7 @@ use Rattle.std.proofs.lemmas.List.{take-append-le, drop-append-le, drop_at, take
 use Rattle.std.proofs.lemmas.List.Elements.{All-take, All-drop, All-nil, All-append, All-cons}
 use Rattle.std.proofs.lemmas.Grind.{flat_map-append}
 use Rattle.strip_graph.specs.Certificates.{IsModest}
-use Rattle.cert_checker.specs.CertTexts.{rows_in, IsRow}
+use Rattle.cert_checker.specs.CertTexts.{rows_in, IsValueRow}
 
 -- a piece in the front of a longer list
 range_same : (i w : ℕ) (xs ys : List ℤ) → i + w ≤ length xs → slice_range (xs ++ ys) i (i + w) ≡ slice_range xs i (i + w)
@@ -82,11 +82,11 @@ rows_joined w k xs h = joined w k xs (omega (arith, h)) ∙ take_all (k * w) xs 
         ∙ ap (λ (n : ℕ). take n xs) e
 
 -- each row is a row
-pub rows_each : (w k : ℕ) (xs : List ℤ) → k * w ≤ length xs → All IsModest xs → All (IsRow w) (rows_in w k xs)
-rows_each w zero xs h m = All-nil (IsRow w)
+pub rows_each : (w k : ℕ) (xs : List ℤ) → k * w ≤ length xs → All IsModest xs → All (IsValueRow w) (rows_in w k xs)
+rows_each w zero xs h m = All-nil (IsValueRow w)
 rows_each w (suc k) xs h m =
     let part = drop (k * w) xs in
     let n = k * w + w - k * w in
     let long : length (take n part) ≡ w = omega (arith, length-take n part, length-drop (k * w) xs, h) in
-    All-append (IsRow w) (rows_in w k xs) (take n part ∷ []) (rows_each w k xs (omega (arith, h)) m)
-    (All-cons (IsRow w) (take n part) [] (long, All-take IsModest n part (All-drop IsModest (k * w) xs m)) (All-nil (IsRow w)))
+    All-append (IsValueRow w) (rows_in w k xs) (take n part ∷ []) (rows_each w k xs (omega (arith, h)) m)
+    (All-cons (IsValueRow w) (take n part) [] (long, All-take IsModest n part (All-drop IsModest (k * w) xs m)) (All-nil (IsValueRow w)))

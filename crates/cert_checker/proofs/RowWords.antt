@@ -6,7 +6,7 @@ use Rattle.std.proofs.lemmas.List.Elements.{All-push, All-nil, All-get_or}
 use Rattle.strip_graph.specs.Certificates.{IsModest}
 use Rattle.text_io.specs.Text.{words, number_of, IsWordAt}
 use Rattle.text_io.specs.WordLists.{Matches, Line}
-use Rattle.cert_checker.specs.CertTexts.{IsRow, row_line}
+use Rattle.cert_checker.specs.CertTexts.{IsValueRow, row_line}
 use Rattle.cert_checker.specs.LineSteps.{IsValue, PutsRow}
 
 -- so many numbers were appended to old ones, and these words are left
@@ -50,7 +50,7 @@ pub row_more : (old new new' : List ℤ) (all : Line) (line : List ℕ) (at firs
 row_more old new new' all line at first end count z w v n r = more_put old new new' all (slice_range line first end) (words (drop end line)) (words (drop at line)) count z w.words v n r
 
 -- a word is not a number that a row may have
-wrong_from : (old new : List ℤ) (all rest : Line) (count width : ℕ) (w : List ℕ) (more : Line) → RowSoFar old new all rest count → rest ≡ w ∷ more → count < width → ((z : ℤ) → IsValue w z → ⊥) → (row : List ℤ) → IsRow width row → Matches all (row_line row) → ⊥
+wrong_from : (old new : List ℤ) (all rest : Line) (count width : ℕ) (w : List ℕ) (more : Line) → RowSoFar old new all rest count → rest ≡ w ∷ more → count < width → ((z : ℤ) → IsValue w z → ⊥) → (row : List ℤ) → IsValueRow width row → Matches all (row_line row) → ⊥
 wrong_from old new all rest count width w more r e lt none row is m =
     let a = r.only row m in
     first_wrong a.0 a.1 (subst (λ (ws : Line). Matches ws (row_line a.0)) e a.2)
@@ -62,7 +62,7 @@ wrong_from old new all rest count width w more r e lt none row is m =
         let inside : count < length row = omega (arith, is.0, lt) in
         none z (g.0, subst IsModest here (All-get_or IsModest row count z inside is.1))
 
-pub row_wrong : (old new : List ℤ) (all : Line) (line : List ℕ) (at first end count width : ℕ) → RowSoFar old new all (words (drop at line)) count → IsWordAt line at first end → count < width → ((z : ℤ) → IsValue (slice_range line first end) z → ⊥) → (row : List ℤ) → IsRow width row → Matches all (row_line row) → ⊥
+pub row_wrong : (old new : List ℤ) (all : Line) (line : List ℕ) (at first end count width : ℕ) → RowSoFar old new all (words (drop at line)) count → IsWordAt line at first end → count < width → ((z : ℤ) → IsValue (slice_range line first end) z → ⊥) → (row : List ℤ) → IsValueRow width row → Matches all (row_line row) → ⊥
 row_wrong old new all line at first end count width r w lt none = wrong_from old new all (words (drop at line)) count width (slice_range line first end) (words (drop end line)) r w.words lt none
 
 -- the whole row was read

@@ -5,8 +5,8 @@ use Rattle.std.proofs.lemmas.List.{map-append}
 use Rattle.strip_graph.specs.declared.tilings.Step.{Step}
 use Rattle.strip_graph.specs.declared.tilings.Step.TheVariants.{V, H}
 use Rattle.text_io.specs.WordLists.{Word, Matches, Line, Kept, lines_of}
-use Rattle.cert_checker.specs.CertTexts.{CertHead, CertParts, IsLawful, letter, row_line, end_line, rows_in, cert_lines}
-use Rattle.cert_checker.specs.CertReading.{ReadsAs, Begins, IsAtFault, HasFault}
+use Rattle.cert_checker.specs.CertTexts.{CertHead, CertParts, IsLawfulCertificate, letter, row_line, certificate_end, rows_in, cert_lines}
+use Rattle.cert_checker.specs.CertReading.{ReadsAsCertificate, BeginsCertificate, IsAtFault, HasCertificateFault}
 use Rattle.cert_checker.proofs.HeadLines.{head_one}
 use Rattle.cert_checker.proofs.RowLists.{rows_count, rows_joined}
 use Rattle.cert_checker.proofs.Fronts.{begins_whole}
@@ -38,7 +38,7 @@ row_one (w ∷ ws) (x ∷ xs) (y ∷ ys) m n =
     let f : x ≡ y = cc in
     ap₂ (λ (z : ℤ) (zs : List ℤ). z ∷ zs) f (row_one ws xs ys m.1 n.1)
 
-rows_one : (ls : List Line) (rs ss : List (List ℤ)) → length rs ≡ length ss → AllZip Matches ls (map row_line rs ++ end_line ∷ []) → AllZip Matches ls (map row_line ss ++ end_line ∷ []) → rs ≡ ss
+rows_one : (ls : List Line) (rs ss : List (List ℤ)) → length rs ≡ length ss → AllZip Matches ls (map row_line rs ++ certificate_end ∷ []) → AllZip Matches ls (map row_line ss ++ certificate_end ∷ []) → rs ≡ ss
 rows_one ls [] [] n z y = refl
 rows_one ls [] (s ∷ ss) n z y = absurd (omega (arith, n))
 rows_one ls (r ∷ rs) [] n z y = absurd (omega (arith, n))
@@ -46,7 +46,7 @@ rows_one [] (r ∷ rs) (s ∷ ss) n z y = absurd z
 rows_one (l ∷ ls) (r ∷ rs) (s ∷ ss) n z y = ap₂ (λ (q : List ℤ) (qs : List (List ℤ)). q ∷ qs) (row_one l r s z.0 y.0) (rows_one ls rs ss (omega (arith, n)) z.1 y.1)
 
 -- lines are those of one certificate at most
-pub cert_one : (ls : List Line) (C D : CertParts) → IsLawful C → IsLawful D → AllZip Matches ls (cert_lines C) → AllZip Matches ls (cert_lines D) → C ≡ D
+pub cert_one : (ls : List Line) (C D : CertParts) → IsLawfulCertificate C → IsLawfulCertificate D → AllZip Matches ls (cert_lines C) → AllZip Matches ls (cert_lines D) → C ≡ D
 cert_one [] C D l k z y = absurd z
 cert_one (a ∷ []) C D l k z y = absurd z.1
 cert_one (a ∷ [] ∷ ls) C D l k z y = absurd z.1.0
@@ -60,14 +60,14 @@ cert_one (a ∷ (b ∷ c ∷ more) ∷ ls) C D l k z y =
     let rows : rows_in (width C.head) (count C.head) C.values ≡ rows_in (width C.head) (count C.head) D.values =
     rows_one ls (rows_in (width C.head) (count C.head) C.values) (rows_in (width C.head) (count C.head) D.values)
     (omega (arith, rows_count (width C.head) (count C.head) C.values, rows_count (width C.head) (count C.head) D.values))
-    z.1.1 (subst (λ (rs : List (List ℤ)). AllZip Matches ls (map row_line rs ++ end_line ∷ [])) (sym there) y.1.1) in
+    z.1.1 (subst (λ (rs : List (List ℤ)). AllZip Matches ls (map row_line rs ++ certificate_end ∷ [])) (sym there) y.1.1) in
     let values : C.values ≡ D.values =
     sym (rows_joined (width C.head) (count C.head) C.values l.count)
     ∙ ap (flat_map (λ (r : List ℤ). r)) (rows ∙ there)
     ∙ rows_joined (width D.head) (count D.head) D.values k.count in
     λ i. record { head = head i; word = word i; values = values i }
 
-pub reads_one : (kept : List Kept) (C D : CertParts) → ReadsAs kept C → ReadsAs kept D → C ≡ D
+pub reads_one : (kept : List Kept) (C D : CertParts) → ReadsAsCertificate kept C → ReadsAsCertificate kept D → C ≡ D
 reads_one kept C D r s = cert_one (lines_of kept) C D r.lawful s.lawful r.match s.match
 
 -- fronts of lines that begin a certificate begin one too
@@ -82,7 +82,7 @@ parted [] ys front z = record { here = []; there = front; split = refl; match = 
 parted (x ∷ xs) ys [] z = absurd z
 parted (x ∷ xs) ys (f ∷ fs) z = let p = parted xs ys fs z.1 in record { here = f ∷ p.here; there = p.there; split = ap (λ (ls : List (List Word)). f ∷ ls) p.split; match = (z.0, p.match) }
 
-pub begins_front : (xs ys : List Line) → Begins (xs ++ ys) → Begins xs
+pub begins_front : (xs ys : List Line) → BeginsCertificate (xs ++ ys) → BeginsCertificate xs
 begins_front xs ys b =
     let p = parted xs ys b.front b.match in
     record {
@@ -95,13 +95,13 @@ begins_front xs ys b =
     }
 
 -- where a line is at fault, the lines begin no certificate
-fault_stops : (kept : List Kept) (n : ℕ) → IsAtFault kept n → Begins (lines_of kept) → ⊥
+fault_stops : (kept : List Kept) (n : ℕ) → IsAtFault kept n → BeginsCertificate (lines_of kept) → ⊥
 fault_stops kept n f b =
     let lines : lines_of kept ≡ (lines_of f.before ++ f.line ∷ []) ++ lines_of f.after =
     ap lines_of f.split ∙ map-append (λ (k : Kept). k.1) f.before ((n, f.line) ∷ f.after) ∙ sym (append_assoc (lines_of f.before) (f.line ∷ []) (lines_of f.after)) in
-    f.none (begins_front (lines_of f.before ++ f.line ∷ []) (lines_of f.after) (subst Begins lines b))
+    f.none (begins_front (lines_of f.before ++ f.line ∷ []) (lines_of f.after) (subst BeginsCertificate lines b))
 
-pub no_fault : (kept : List Kept) (last n : ℕ) (C : CertParts) → ReadsAs kept C → HasFault kept last n → ⊥
+pub no_fault : (kept : List Kept) (last n : ℕ) (C : CertParts) → ReadsAsCertificate kept C → HasCertificateFault kept last n → ⊥
 no_fault kept last n C r h =
     elim h [
       | inl f ↦ fault_stops kept n f (begins_whole C r.lawful (lines_of kept) r.match)
@@ -129,11 +129,11 @@ places (a ∷ xs) (b ∷ ys) x y ps qs e =
     subst (λ (k : Kept). Places (a ∷ xs) (k ∷ ys) x y) f (one_further a xs ys x y (places xs ys x y ps qs g))
 
 -- no front of lines that begin a certificate has a line at fault
-no_later : (before : List Kept) (n : ℕ) (line : Line) (ys zs : List Kept) → ys ≡ before ++ (n, line) ∷ zs → (Begins (lines_of before ++ line ∷ []) → ⊥) → Begins (lines_of ys) → ⊥
+no_later : (before : List Kept) (n : ℕ) (line : Line) (ys zs : List Kept) → ys ≡ before ++ (n, line) ∷ zs → (BeginsCertificate (lines_of before ++ line ∷ []) → ⊥) → BeginsCertificate (lines_of ys) → ⊥
 no_later before n line ys zs e none b =
     let lines : lines_of ys ≡ (lines_of before ++ line ∷ []) ++ lines_of zs =
     ap lines_of e ∙ map-append (λ (k : Kept). k.1) before ((n, line) ∷ zs) ∙ sym (append_assoc (lines_of before) (line ∷ []) (lines_of zs)) in
-    none (begins_front (lines_of before ++ line ∷ []) (lines_of zs) (subst Begins lines b))
+    none (begins_front (lines_of before ++ line ∷ []) (lines_of zs) (subst BeginsCertificate lines b))
 
 lines_at_fault : (kept : List Kept) (m n : ℕ) → IsAtFault kept m → IsAtFault kept n → m ≡ n
 lines_at_fault kept m n f g =
@@ -143,7 +143,7 @@ lines_at_fault kept m n f g =
       | second zs e ↦ absurd (no_later g.before n g.line f.before zs e g.none f.begins)
     ]
 
-pub one_fault : (kept : List Kept) (last m n : ℕ) → HasFault kept last m → HasFault kept last n → m ≡ n
+pub one_fault : (kept : List Kept) (last m n : ℕ) → HasCertificateFault kept last m → HasCertificateFault kept last n → m ≡ n
 one_fault kept last m n (inl f) (inl g) = lines_at_fault kept m n f g
 one_fault kept last m n (inl f) (inr t) = absurd (fault_stops kept m f t.begins)
 one_fault kept last m n (inr s) (inl g) = absurd (fault_stops kept n g s.begins)

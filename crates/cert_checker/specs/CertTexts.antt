@@ -35,11 +35,11 @@ abbrev pub IsWord : List Step → Type 0
 IsWord word = (1 ≤ length word) × (length word ≤ MAX_STEPS)
 
 -- a row of so many numbers, none too large in absolute value
-abbrev pub IsRow : ℕ → List ℤ → Type 0
-IsRow width row = (length row ≡ width) × All IsModest row
+abbrev pub IsValueRow : ℕ → List ℤ → Type 0
+IsValueRow width row = (length row ≡ width) × All IsModest row
 
 -- a certificate that a text can hold: 2 * rows rows of cols + 1 numbers
-pub record IsLawful (C : CertParts) : Type 0 where
+pub record IsLawfulCertificate (C : CertParts) : Type 0 where
   pub head : IsHead C.head
   pub word : IsWord C.word
   pub count : length C.values ≡ 2 * C.head.rows * (C.head.cols + 1)
@@ -66,8 +66,8 @@ word_line word = text (codes "WORD") ∷ text (map letter word) ∷ []
 abbrev pub row_line : List ℤ → List Word
 row_line row = map number row
 
-abbrev pub end_line : List Word
-end_line = text (codes "END") ∷ []
+abbrev pub certificate_end : List Word
+certificate_end = text (codes "END") ∷ []
 
 -- the first rows of this width in a list of numbers
 abbrev pub rows_in : ℕ → ℕ → List ℤ → List (List ℤ)
@@ -79,15 +79,15 @@ value_lines C = map row_line (rows_in (C.head.cols + 1) (2 * C.head.rows) C.valu
 
 -- the word lists of the lines of a certificate's text
 abbrev pub cert_lines : CertParts → List (List Word)
-cert_lines C = head_line C.head ∷ word_line C.word ∷ (value_lines C ++ end_line ∷ [])
+cert_lines C = head_line C.head ∷ word_line C.word ∷ (value_lines C ++ certificate_end ∷ [])
 
 -- the canonical text: one blank between words, a line feed after every line, no leading zeros
 abbrev pub cert_text : CertParts → List ℕ
 cert_text C = flat_map line_text (cert_lines C)
 
 -- the certificate of the code
-abbrev pub parts_of : CertText → CertParts
-parts_of t = record {
+abbrev pub certificate_parts : CertText → CertParts
+certificate_parts t = record {
   head = record {
     pair = t.pair;
     rows = t.cert.rows;

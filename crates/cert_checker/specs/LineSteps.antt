@@ -7,7 +7,7 @@ use Rattle.strip_graph.specs.declared.tilings.Step.{Step}
 use Rattle.text_io.specs.Text.{lines, words, kept_from, number_of}
 use Rattle.text_io.specs.WordLists.{Word, Matches, Line, Kept, lines_of}
 use Rattle.cert_checker.specs.declared.reading.Head.{Head}
-use Rattle.cert_checker.specs.CertTexts.{CertHead, head_line, word_line, row_line, rows_in, IsRow}
+use Rattle.cert_checker.specs.CertTexts.{CertHead, head_line, word_line, row_line, rows_in, IsValueRow}
 
 -- the word says this integer, which is in its range
 abbrev pub IsCount : List ℕ → ℕ → ℕ → ℕ → Type 0
@@ -18,7 +18,7 @@ abbrev pub IsValue : List ℕ → ℤ → Type 0
 IsValue word z = (number_of word ≡ Some z) × IsModest z
 
 -- a word after a keyword at the front of some words
-pub record IsBehind (line : List ℕ) (at : ℕ) (keyword : List ℕ) (first end : ℕ) : Type 0 where
+pub record IsAfterKeyword (line : List ℕ) (at : ℕ) (keyword : List ℕ) (first end : ℕ) : Type 0 where
   pub in_order : (first ≤ end) × (end ≤ length line)
   pub words : words (drop at line) ≡ keyword ∷ slice_range line first end ∷ words (drop end line)
 
@@ -27,14 +27,14 @@ abbrev pub NoneBehind : Line → List ℕ → Type 0
 NoneBehind ws keyword = (word : List ℕ) (more : Line) → ws ≡ keyword ∷ word ∷ more → ⊥
 
 -- the number after a keyword at the front of some words, and the words after it
-pub record IsNamed (ws : Line) (keyword : List ℕ) (z : ℤ) (more : Line) : Type 0 where
+pub record HasNumberAfter (ws : Line) (keyword : List ℕ) (z : ℤ) (more : Line) : Type 0 where
   pub word : List ℕ
   pub words : ws ≡ keyword ∷ word ∷ more
   pub says : number_of word ≡ Some z
 
 -- the words do not begin with this keyword and such a number
 abbrev pub NoneNamed : (ℤ → Type 0) → Line → List ℕ → Type 0
-NoneNamed P ws keyword = (z : ℤ) (more : Line) → P z → IsNamed ws keyword z more → ⊥
+NoneNamed P ws keyword = (z : ℤ) (more : Line) → P z → HasNumberAfter ws keyword z more → ⊥
 
 -- the numbers from least to most
 abbrev pub IsBetween : ℕ → ℕ → ℤ → Type 0
@@ -48,7 +48,7 @@ head_parts h = record { pair = h.pair; rows = h.rows; cols = h.cols; cost = h.co
 pub record PutsRow (ws : Line) (width : ℕ) (old new : List ℤ) : Type 0 where
   pub row : List ℤ
   pub put : new ≡ old ++ row
-  pub is_row : IsRow width row
+  pub is_row : IsValueRow width row
   pub match : Matches ws (row_line row)
 
 -- the lines of a text, after so many lines, were read up to a byte and a number, and match these

@@ -3,8 +3,8 @@ ghost use Rattle.std.specs.Prelude.{◌≡◌, ℕ, ◌≤◌, ◌+◌, ◌-◌,
 ghost use Rattle.text_io.specs.Text.{lines};
 ghost use Rattle.strip_graph.specs.Certificates.{IsModest};
 ghost use Rattle.fku_types.specs.declared.fault.Fault.TheVariants.{CertForm, NoMemory};
-ghost use Rattle.cert_checker.specs.CertTexts.{CertParts, IsHead, IsWord, head_line, parts_of};
-ghost use Rattle.cert_checker.specs.CertReading.{kept_behind, last_line, ReadsAs, HasFault, IsCertMemory, IsFaultOf, ReadsBack, Tells};
+ghost use Rattle.cert_checker.specs.CertTexts.{CertParts, IsHead, IsWord, head_line, certificate_parts};
+ghost use Rattle.cert_checker.specs.CertReading.{kept_behind, last_line, ReadsAsCertificate, HasCertificateFault, IsCertMemory, IsCertificateFault, ReadsBackCertificate, TellsCertificateFault};
 ghost use Rattle.cert_checker.specs.LineSteps.{head_parts, HasRead, first_lines};
 
 use crate::certs::{Cert, CertText};
@@ -37,7 +37,8 @@ fn parse_head(bytes: &[u8], lines_before: u32) -> Result<(Head, Place), Fault>
     ensures ok { IfOk result (λ r.
         IsHead (head_parts r.0)
         × HasRead lines_before bytes.now r.1.at r.1.number (head_line (head_parts r.0) ∷ [])) }
-    ensures fault { IfErr result (IsFaultOf (kept_behind lines_before bytes.now) (last_line lines_before bytes.now)) }
+    ensures fault { IfErr result (IsCertificateFault (kept_behind lines_before bytes.now)
+        (last_line lines_before bytes.now)) }
     ensures sure { IfErr result (λ f. f ≡ NoMemory → ⊥) }
 {
     let Some(line) = kept_line_at(bytes, 0, lines_before) else {
@@ -71,7 +72,8 @@ fn parse_word(
     ensures ok { IfOk result (λ r.
         IsWord r.0.items
         × HasRead lines_before bytes.now r.1.at r.1.number (first_lines (head_parts head) r.0.items 0 [])) }
-    ensures fault { IfErr result (IsFaultOf (kept_behind lines_before bytes.now) (last_line lines_before bytes.now)) }
+    ensures fault { IfErr result (IsCertificateFault (kept_behind lines_before bytes.now)
+        (last_line lines_before bytes.now)) }
 {
     let Some(line) = kept_line_at(bytes, place.at, place.number) else {
         return Err(stopped(bytes, place));
@@ -109,7 +111,8 @@ fn parse_row(
     ensures ok { IfOk result (λ p.
         HasRead lines_before bytes.now p.at p.number
         (first_lines (head_parts head) word.now (row + 1) values.new.items)) }
-    ensures fault { IfErr result (IsFaultOf (kept_behind lines_before bytes.now) (last_line lines_before bytes.now)) }
+    ensures fault { IfErr result (IsCertificateFault (kept_behind lines_before bytes.now)
+        (last_line lines_before bytes.now)) }
 {
     let Some(line) = kept_line_at(bytes, place.at, place.number) else {
         return Err(stopped(bytes, place));
@@ -141,7 +144,8 @@ fn parse_rows(
     ensures ok { IfOk result (λ r.
         HasRead lines_before bytes.now r.1.at r.1.number
         (first_lines (head_parts head) word.now (2 * head.rows) r.0.items)) }
-    ensures fault { IfErr result (IsFaultOf (kept_behind lines_before bytes.now) (last_line lines_before bytes.now)) }
+    ensures fault { IfErr result (IsCertificateFault (kept_behind lines_before bytes.now)
+        (last_line lines_before bytes.now)) }
 {
     let rows = 2 * head.rows as usize;
     let mut values = Vec::with_capacity(alloc, rows * (head.cols as usize + 1))?;
@@ -169,9 +173,10 @@ fn parse_end(
     requires read { HasRead lines_before bytes.now place.at place.number
         (first_lines (head_parts head) word.now (2 * head.rows) values.now) }
     ensures ok { OnOk result
-        (ReadsAs (kept_behind lines_before bytes.now)
+        (ReadsAsCertificate (kept_behind lines_before bytes.now)
         (record { head = head_parts head; word = word.now; values = values.now })) }
-    ensures fault { IfErr result (IsFaultOf (kept_behind lines_before bytes.now) (last_line lines_before bytes.now)) }
+    ensures fault { IfErr result (IsCertificateFault (kept_behind lines_before bytes.now)
+        (last_line lines_before bytes.now)) }
     ensures sure { IfErr result (λ f. f ≡ NoMemory → ⊥) }
 {
     let Some(line) = kept_line_at(bytes, place.at, place.number) else {
@@ -188,8 +193,9 @@ fn parse_end(
 
 fn parse_text(alloc: Global, bytes: &[u8], lines_before: u32) -> Result<CertText, Fault>
     requires few { lines_before + length bytes.now < 2 ^ 32 - 1 }
-    ensures found { IfOk result (λ t. ReadsAs (kept_behind lines_before bytes.now) (parts_of t)) }
-    ensures fault { IfErr result (IsFaultOf (kept_behind lines_before bytes.now) (last_line lines_before bytes.now)) }
+    ensures found { IfOk result (λ t. ReadsAsCertificate (kept_behind lines_before bytes.now) (certificate_parts t)) }
+    ensures fault { IfErr result (IsCertificateFault (kept_behind lines_before bytes.now)
+        (last_line lines_before bytes.now)) }
     ensures memory { IfErr result (IsCertMemory (kept_behind lines_before bytes.now)) }
 {
     let (head, place) = parse_head(bytes, lines_before)?;
@@ -220,17 +226,20 @@ pub fn parse_cert(alloc: Global, bytes: &[u8], lines_before: u32) -> Result<Cert
     // So even the number after that of the last line has 32 bits.
     requires few { lines_before + length bytes.now < 2 ^ 32 - 1 }
     // The text reads as this certificate.
-    ensures found { IfOk result (λ t. ReadsAs (kept_behind lines_before bytes.now) (parts_of t)) }
+    ensures found { IfOk result (λ t. ReadsAsCertificate (kept_behind lines_before bytes.now) (certificate_parts t)) }
     // The text has this fault, or memory ran out.
-    ensures fault { IfErr result (IsFaultOf (kept_behind lines_before bytes.now) (last_line lines_before bytes.now)) }
+    ensures fault { IfErr result (IsCertificateFault (kept_behind lines_before bytes.now)
+        (last_line lines_before bytes.now)) }
     // A fault in the first line is reported whatever memory there is. The word and the rows are kept while they are
     // read, so memory may run out before the line of the fault is seen.
     ensures memory { IfErr result (IsCertMemory (kept_behind lines_before bytes.now)) }
     // A text that reads as a certificate gives it, unless memory runs out.
-    ensures given { (C : CertParts) → ReadsAs (kept_behind lines_before bytes.now) C → ReadsBack C result }
+    ensures given { (C : CertParts) → ReadsAsCertificate (kept_behind lines_before bytes.now) C
+        → ReadsBackCertificate C result }
     // A text with a fault gives this fault, unless memory runs out.
-    ensures told { (n : ℕ) → HasFault (kept_behind lines_before bytes.now) (last_line lines_before bytes.now) n
-        → Tells n result }
+    ensures told { (n : ℕ) → HasCertificateFault (kept_behind lines_before bytes.now) (last_line lines_before bytes.now)
+        n
+        → TellsCertificateFault n result }
 {
     parse_text(alloc, bytes, lines_before)
 }

@@ -3,8 +3,8 @@ ghost use Rattle.std.specs.Prelude.{◌≡◌, ℕ, ◌≤◌, ◌+◌, ◌*◌,
 ghost use Rattle.std.specs.List.{flat_map};
 ghost use Rattle.std.specs.Fmt.{signed_decimal};
 ghost use Rattle.text_io.specs.WordLists.{line_text};
-ghost use Rattle.cert_checker.specs.CertTexts.{IsLawful, letter, head_line, word_line, row_line, rows_in, cert_text, parts_of};
-ghost use Rattle.cert_checker.specs.CertReading.{kept_behind, ReadsAs};
+ghost use Rattle.cert_checker.specs.CertTexts.{IsLawfulCertificate, letter, head_line, word_line, row_line, rows_in, cert_text, certificate_parts};
+ghost use Rattle.cert_checker.specs.CertReading.{kept_behind, ReadsAsCertificate};
 ghost use Rattle.cert_checker.specs.LineSteps.{after_blank};
 
 use crate::certs::CertText;
@@ -75,7 +75,7 @@ fn put_start(out: &mut Vec<u8>, text: &CertText) -> Result<(), AllocError>
 }
 
 fn put_head(out: &mut Vec<u8>, text: &CertText) -> Result<(), AllocError>
-    ensures { OnOk result (out.new.items ≡ out.old.items ++ line_text (head_line (parts_of text.now).head)) }
+    ensures { OnOk result (out.new.items ≡ out.old.items ++ line_text (head_line (certificate_parts text.now).head)) }
 {
     put_sizes(out, text)?;
     put_start(out, text)
@@ -152,7 +152,7 @@ pub fn put_rows(
 
 // Enough bytes for a text: a number takes at most 37 digits, a minus and a blank.
 fn room(text: &CertText) -> usize
-    requires { IsLawful (parts_of text.now) }
+    requires { IsLawfulCertificate (certificate_parts text.now) }
     ensures { result ≡ 160 + length text.now.cert.tiling.word.items + 39 * length text.now.cert.pi.items }
 {
     160 + text.cert.tiling.word.len() + 39 * text.cert.pi.len()
@@ -160,8 +160,8 @@ fn room(text: &CertText) -> usize
 
 // All lines.
 fn put_cert(out: &mut Vec<u8>, text: &CertText) -> Result<(), AllocError>
-    requires { IsLawful (parts_of text.now) }
-    ensures { OnOk result (out.new.items ≡ out.old.items ++ cert_text (parts_of text.now)) }
+    requires { IsLawfulCertificate (certificate_parts text.now) }
+    ensures { OnOk result (out.new.items ≡ out.old.items ++ cert_text (certificate_parts text.now)) }
 {
     let cert = &text.cert;
     let (width, rows) = (cert.cols as usize + 1, 2 * cert.rows as usize);
@@ -174,11 +174,12 @@ fn put_cert(out: &mut Vec<u8>, text: &CertText) -> Result<(), AllocError>
 /// The canonical text of a lawful certificate: one blank between words, a line feed after every line, no leading zeros
 /// and no `-0`; or `NoMemory`. `docs/formats.md` has the layout.
 pub fn print_cert(alloc: Global, text: &CertText) -> Result<Vec<u8>, NoMemory>
-    requires { IsLawful (parts_of text.now) }
+    requires { IsLawfulCertificate (certificate_parts text.now) }
     // The bytes are the canonical text.
-    ensures canonical { IfOk result (λ v. v.items ≡ cert_text (parts_of text.now)) }
+    ensures canonical { IfOk result (λ v. v.items ≡ cert_text (certificate_parts text.now)) }
     // This text reads as the same certificate, after any number of lines.
-    ensures law { IfOk result (λ v. (passed : ℕ) → ReadsAs (kept_behind passed v.items) (parts_of text.now)) }
+    ensures law { IfOk result (λ v. (passed : ℕ)
+        → ReadsAsCertificate (kept_behind passed v.items) (certificate_parts text.now)) }
     // It is short enough to be read.
     ensures short { IfOk result (λ v. length v.items ≤ MAX_CHECK_BYTES) }
 {

@@ -5,8 +5,8 @@ ghost use Rattle.text_io.specs.WordLists.{Matches};
 ghost use Rattle.strip_graph.specs.Certificates.{IsModest};
 ghost use Rattle.strip_graph.specs.declared.tilings.Step.{Step};
 ghost use Rattle.std.specs.Prelude.{ℤ, pos};
-ghost use Rattle.cert_checker.specs.CertTexts.{CertHead, IsHead, IsWord, IsRow, letter, head_line, word_line, row_line, end_line};
-ghost use Rattle.cert_checker.specs.LineSteps.{IsCount, IsValue, IsBehind, NoneBehind, IsNamed, NoneNamed, IsBetween, head_parts, PutsRow};
+ghost use Rattle.cert_checker.specs.CertTexts.{CertHead, IsHead, IsWord, IsValueRow, letter, head_line, word_line, row_line, certificate_end};
+ghost use Rattle.cert_checker.specs.LineSteps.{IsCount, IsValue, IsAfterKeyword, NoneBehind, HasNumberAfter, NoneNamed, IsBetween, head_parts, PutsRow};
 
 use fku_types::limits::{MAX_COMPOSITE_VERTICES, MAX_PAIRS, MAX_START_ROW, MAX_STEPS};
 use std::alloc::{AllocError, Global};
@@ -69,7 +69,7 @@ fn is(word: &[u8], keyword: &[u8]) -> bool
 fn behind(line: &[u8], at: usize, keyword: &[u8]) -> Option<WordSpan>
     requires { at ≤ length line.now }
     ensures { MatchOption result (NoneBehind (words (drop at line.now)) keyword.now) (λ w.
-        IsBehind line.now at keyword.now w.first w.end) }
+        IsAfterKeyword line.now at keyword.now w.first w.end) }
 {
     let Some(name) = word_at(line, at) else {
         return None;
@@ -87,7 +87,7 @@ fn count_behind(line: &[u8], at: usize, keyword: &[u8], least: u32, most: u32) -
         (c.end ≤ length line.now)
         × (least ≤ c.value)
         × (c.value ≤ most)
-        × IsNamed (words (drop at line.now)) keyword.now (pos c.value) (words (drop c.end line.now))) }
+        × HasNumberAfter (words (drop at line.now)) keyword.now (pos c.value) (words (drop c.end line.now))) }
 {
     let Some(word) = behind(line, at, keyword) else {
         return None;
@@ -105,7 +105,7 @@ fn value_behind(line: &[u8], at: usize, keyword: &[u8]) -> Option<Value>
     ensures { MatchOption result (NoneNamed IsModest (words (drop at line.now)) keyword.now) (λ v.
         (v.end ≤ length line.now)
         × IsModest v.value
-        × IsNamed (words (drop at line.now)) keyword.now v.value (words (drop v.end line.now))) }
+        × HasNumberAfter (words (drop at line.now)) keyword.now v.value (words (drop v.end line.now))) }
 {
     let Some(word) = behind(line, at, keyword) else {
         return None;
@@ -200,7 +200,7 @@ pub fn read_word(alloc: Global, line: &[u8]) -> Result<Option<Vec<Step>>, AllocE
 pub fn read_row(values: &mut Vec<i128>, line: &[u8], width: usize) -> Result<bool, AllocError>
     ensures { IfOk result (λ b.
         MatchBool b (PutsRow (words line.now) width values.old.items values.new.items)
-        ((row : List ℤ) → IsRow width row → Matches (words line.now) (row_line row) → ⊥)) }
+        ((row : List ℤ) → IsValueRow width row → Matches (words line.now) (row_line row) → ⊥)) }
 {
     let mut at = 0;
     for _done in 0..width {
@@ -221,7 +221,7 @@ pub fn read_row(values: &mut Vec<i128>, line: &[u8], width: usize) -> Result<boo
 
 /// Whether a line is the last one of a certificate's text.
 pub fn is_end(line: &[u8]) -> bool
-    ensures { MatchBool result (Matches (words line.now) end_line) (Matches (words line.now) end_line → ⊥) }
+    ensures { MatchBool result (Matches (words line.now) certificate_end) (Matches (words line.now) certificate_end → ⊥) }
 {
     let Some(word) = word_at(line, 0) else {
         return false;

@@ -4,7 +4,7 @@ use Rattle.std.proofs.lemmas.Int.{ints, clamps}
 use Rattle.fku_types.specs.declared.points.Point.{Point}
 use Rattle.plane_geom.specs.Rings.{around, origin}
 use Rattle.plane_geom.specs.Segments.{SharePoint}
-use Rattle.plane_geom.specs.Signs.{Overlap}
+use Rattle.plane_geom.specs.Signs.{RangesOverlap}
 use Rattle.plane_geom.proofs.SharedSigns.{by_signs}
 use Rattle.correspondence.specs.declared.bounds.Bounds.{Bounds}
 use Rattle.correspondence.specs.Bounding.{LiesWithin, Encloses, BoundsMeet}
@@ -12,7 +12,7 @@ use Rattle.correspondence.specs.Simple.{AgainstRule, following, closing, distant
 use Rattle.correspondence.specs.Apart.{SegmentTouches, Touch}
 use Rattle.correspondence.proofs.Beyond.{around_last}
 
-ranges_overlap : (a b c d l h m g : ℤ) → Overlap a b c d → l ≤ℤ a → l ≤ℤ b → a ≤ℤ h → b ≤ℤ h → m ≤ℤ c → m ≤ℤ d → c ≤ℤ g → d ≤ℤ g → (l ≤ℤ g) × (m ≤ℤ h)
+ranges_overlap : (a b c d l h m g : ℤ) → RangesOverlap a b c d → l ≤ℤ a → l ≤ℤ b → a ≤ℤ h → b ≤ℤ h → m ≤ℤ c → m ≤ℤ d → c ≤ℤ g → d ≤ℤ g → (l ≤ℤ g) × (m ≤ℤ h)
 ranges_overlap a b c d l h m g o la lb ah bh mc md cg dg = (omega (arith, ints, clamps, o.0), omega (arith, ints, clamps, o.1))
 
 pub sharing_bounds_meet : (one other : Bounds) (a b c d : Point) → SharePoint a b c d → LiesWithin one a → LiesWithin one b → LiesWithin other c → LiesWithin other d → BoundsMeet one other

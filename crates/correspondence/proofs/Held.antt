@@ -7,16 +7,16 @@ use Rattle.section_core.specs.declared.parts.Contour.{Contour}
 use Rattle.section_core.specs.declared.parts.Section.{Section}
 use Rattle.section_core.specs.Parts.{ContourParts, SectionParts, Parts}
 use Rattle.section_core.specs.Views.{contour_parts, section_parts}
-use Rattle.section_core.specs.Flat.{IsLevel, IsFlat, AreFlat}
+use Rattle.section_core.specs.Flat.{IsAtHeight, IsFlat, AreFlat}
 use Rattle.section_core.specs.Accepted.{IsAccepted}
 use Rattle.section_core.specs.ValidSections.{IsValidSection, AreValidSections}
 use Rattle.correspondence.specs.Contours.{points_of, AreOutlines}
-use Rattle.correspondence.specs.Outlines.{point_at, layer, held_layer, layer_at}
+use Rattle.correspondence.specs.Outlines.{spot_point, layer, held_layer, layer_at}
 use Rattle.std.proofs.lemmas.List.Elements.{All-from_recursion, recursion_from_All}
 use Rattle.section_core.proofs.Keeping.{are_kept, names-same, level-data}
 
 -- ---- layers
-level_outlines : (z : ℤ) (cs : List Contour) → AllByRecursion (IsLevel z) cs → map (λ (c : ContourParts). map (point_at z) c.points) (map contour_parts cs) ≡ map points_of cs
+level_outlines : (z : ℤ) (cs : List Contour) → AllByRecursion (IsAtHeight z) cs → map (λ (c : ContourParts). map (spot_point z) c.points) (map contour_parts cs) ≡ map points_of cs
 level_outlines z [] h = refl
 level_outlines z (c ∷ cs) h = ap₂ (λ (q : List Point) (qs : List (List Point)). q ∷ qs) (sym (level-data z c.points.items h.0)) (level_outlines z cs h.1)
 
@@ -44,7 +44,7 @@ sections_within ss S e f a k d l = kept_outlines _ ((are_kept S ss e a f).each k
 
 -- ---- contracts of the readers of sections
 flat_section : (s : Section) → IsValidSection s → IsFlat s
-flat_section s h = recursion_from_All (IsLevel s.z) s.contours.items (λ k d l. recursion_from_All (λ (p : Point). p.z ≡ s.z) _ ((h.contours k d l).level))
+flat_section s h = recursion_from_All (IsAtHeight s.z) s.contours.items (λ k d l. recursion_from_All (λ (p : Point). p.z ≡ s.z) _ ((h.contours k d l).level))
 
 -- each point of held sections is at the height of its section
 pub kept_flat : (ss : List Section) → AreValidSections ss → AreFlat ss

@@ -3,7 +3,7 @@ use Rattle.std.proofs.Common.{◌≡◌, inl, inr, ℕ, ◌+◌, ◌-◌, ◌<�
 use Rattle.std.proofs.Math.ListN.{get_or-eq_default}
 use Rattle.std.proofs.lemmas.Bool.{cases_lt, and_parts, and_from, lt-ltb, le-ltb, cases_Bool, both_ways}
 use Rattle.correspondence.specs.Components.{Member, Below, Above, AreLinked, Leads, AreConnected}
-use Rattle.correspondence.specs.Graphs.{mark, cell, adjacent, Passes, Reaches, cell_links}
+use Rattle.correspondence.specs.Graphs.{mark, cell, adjacent, LeadsAlong, Reaches, cell_links}
 use Rattle.correspondence.proofs.Visiting.{mark_below}
 
 -- ---- contours as nodes
@@ -66,11 +66,11 @@ adjacent_linked table a b h =
           subst (λ (m : Member). AreLinked (cell_links table) m (member_of n b)) (sym x) (subst (AreLinked (cell_links table) (Above (a - n))) (sym y) e.1)
     ]
 
-leads_passes : (table : List (List Bool)) (x : Member) (via : List Member) (y : Member) → Leads (cell_links table) x via y → Passes (adjacent table) (node_of (length table) x) (map (node_of (length table)) via) (node_of (length table) y)
+leads_passes : (table : List (List Bool)) (x : Member) (via : List Member) (y : Member) → Leads (cell_links table) x via y → LeadsAlong (adjacent table) (node_of (length table) x) (map (node_of (length table)) via) (node_of (length table) y)
 leads_passes table x [] y e = ap (node_of (length table)) e
 leads_passes table x (w ∷ via) y p = (linked_adjacent table x w p.0, leads_passes table w via y p.1)
 
-passes_leads : (table : List (List Bool)) (a : ℕ) (via : List ℕ) (b : ℕ) → Passes (adjacent table) a via b → Leads (cell_links table) (member_of (length table) a) (map (member_of (length table)) via) (member_of (length table) b)
+passes_leads : (table : List (List Bool)) (a : ℕ) (via : List ℕ) (b : ℕ) → LeadsAlong (adjacent table) a via b → Leads (cell_links table) (member_of (length table) a) (map (member_of (length table)) via) (member_of (length table) b)
 passes_leads table a [] b e = ap (member_of (length table)) e
 passes_leads table a (c ∷ via) b p = (adjacent_linked table a c p.0, passes_leads table c via b p.1)
 

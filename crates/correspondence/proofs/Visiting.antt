@@ -6,7 +6,7 @@ use Rattle.std.proofs.lemmas.List.{length-append, length-replicate, length-set, 
 use Rattle.std.proofs.lemmas.List.Folds.{list_any-append}
 use Rattle.std.proofs.lemmas.List.Sums.{sum_by-set}
 use Rattle.correspondence.specs.Places.{has}
-use Rattle.correspondence.specs.Graphs.{mark, Passes, Reaches, unmarked, Visits, AreReached}
+use Rattle.correspondence.specs.Graphs.{mark, LeadsAlong, Reaches, unmarked_count, Visits, AreReached}
 
 pub has_front : (k : ℕ) (xs ys : List ℕ) → has k xs ≡ true → has k (xs ++ ys) ≡ true
 has_front k xs ys h = list_any-append (λ m. m == k) xs ys ∙ or_left (has k xs) (has k ys) h
@@ -40,7 +40,7 @@ mark_kept ms t k l h = elim (cases_eq k t) [ inl e ↦ ap (mark (set ms t true))
 mark_cases : (ms : List Bool) (t k : ℕ) → mark (set ms t true) k ≡ true → (k ≡ t) ⊎ (mark ms k ≡ true)
 mark_cases ms t k h = elim (cases_eq k t) [ inl e ↦ inl e | inr ne ↦ inr (sym (mark_other ms t k true ne) ∙ h) ]
 
-unmarked_less : (ms : List Bool) (t : ℕ) → t < length ms → mark ms t ≡ false → unmarked (set ms t true) + 1 ≡ unmarked ms
+unmarked_less : (ms : List Bool) (t : ℕ) → t < length ms → mark ms t ≡ false → unmarked_count (set ms t true) + 1 ≡ unmarked_count ms
 unmarked_less ms t l h =
     let f : Bool → ℕ = λ b. cond b 0 1 in
     let e = sum_by-set f ms t true false l in
@@ -107,7 +107,7 @@ visits_mark R from t old new before waiting v l n r = record {
 }
 
 -- ---- the whole search
-pub passes_push : (R : ℕ → ℕ → Bool) (a : ℕ) (via : List ℕ) (b c : ℕ) → Passes R a via b → R b c ≡ true → Passes R a (via ++ c ∷ []) c
+pub passes_push : (R : ℕ → ℕ → Bool) (a : ℕ) (via : List ℕ) (b c : ℕ) → LeadsAlong R a via b → R b c ≡ true → LeadsAlong R a (via ++ c ∷ []) c
 passes_push R a [] b c e r = (subst (λ (i : ℕ). R i c ≡ true) (sym e) r, refl)
 passes_push R a (d ∷ via) b c p r = (p.0, passes_push R d via b c p.1 r)
 
@@ -164,7 +164,7 @@ reaching_step R root size x marks after waiting rest next h e v =
 pub reaching_end : (R : ℕ → ℕ → Bool) (root size : ℕ) (marks : List Bool) → ((a b : ℕ) → R a b ≡ true → b < size) → Reaching R root size marks [] → AreReached R root size marks
 reaching_end R root size marks bound h = record { size = h.size; reached = λ k. (h.sound k, λ p. along root p.0 k h.root p.1) }
   where
-    along : (a : ℕ) (via : List ℕ) (b : ℕ) → mark marks a ≡ true → Passes R a via b → mark marks b ≡ true
+    along : (a : ℕ) (via : List ℕ) (b : ℕ) → mark marks a ≡ true → LeadsAlong R a via b → mark marks b ≡ true
     along a [] b m e = subst (λ (i : ℕ). mark marks i ≡ true) e m
     along a (c ∷ via) b m p = along c via b (h.closed a c m (bound a c p.0) p.0 refl) p.1
 

@@ -33,16 +33,16 @@ adjacent table a b =
     else (nat_lt b (length table) && cell table b (a - length table))
 
 -- a path of nodes leads from one node to another, each adjacent to the next
-abbrev pub Passes : (ℕ → ℕ → Bool) → ℕ → List ℕ → ℕ → Type 0
-Passes R a [] b = a ≡ b
-Passes R a (c ∷ cs) b = (R a c ≡ true) × Passes R c cs b
+abbrev pub LeadsAlong : (ℕ → ℕ → Bool) → ℕ → List ℕ → ℕ → Type 0
+LeadsAlong R a [] b = a ≡ b
+LeadsAlong R a (c ∷ cs) b = (R a c ≡ true) × LeadsAlong R c cs b
 
 abbrev pub Reaches : (ℕ → ℕ → Bool) → ℕ → ℕ → Type 0
-Reaches R a b = (via : List ℕ) × Passes R a via b
+Reaches R a b = (via : List ℕ) × LeadsAlong R a via b
 
 -- how many nodes are not marked
-abbrev pub unmarked : List Bool → ℕ
-unmarked marks = sum_by (λ b. if b then 0 else 1) marks
+abbrev pub unmarked_count : List Bool → ℕ
+unmarked_count marks = sum_by (λ b. if b then 0 else 1) marks
 
 -- of the first n nodes, those adjacent to a node were marked, and those that had no mark before now wait
 pub record Visits (R : ℕ → ℕ → Bool) (from n : ℕ) (old new : List Bool) (before waiting : List ℕ) : Type 0 where
@@ -53,7 +53,7 @@ pub record Visits (R : ℕ → ℕ → Bool) (from n : ℕ) (old new : List Bool
   pub stay : (k : ℕ) → has k before ≡ true → has k waiting ≡ true
   pub wait : (k : ℕ) → mark new k ≡ true → mark old k ≡ false → has k waiting ≡ true
   pub marked : (k : ℕ) → has k waiting ≡ true → (has k before ≡ true) ⊎ (mark new k ≡ true)
-  pub less : 2 * unmarked new + length waiting ≤ 2 * unmarked old + length before
+  pub less : 2 * unmarked_count new + length waiting ≤ 2 * unmarked_count old + length before
 
 -- the marked nodes are those that can be reached from the root
 pub record AreReached (R : ℕ → ℕ → Bool) (root n : ℕ) (marks : List Bool) : Type 0 where

@@ -30,8 +30,8 @@ abbrev pub above_of : LinkTable → List ℕ → List (List ℕ)
 above_of t q = names_above (get bytes_eq t.above q)
 
 -- a table has the names of these links
-abbrev pub IsTableOf : LinkTable → List LinkParts → Type 0
-IsTableOf t links = AreNamedAbove (above_of t) links
+abbrev pub IsLinkTableOf : LinkTable → List LinkParts → Type 0
+IsLinkTableOf t links = AreNamedAbove (above_of t) links
 
 -- a name finds the first of these places of contours
 abbrev pub Finds : (List ℕ → Option ContourPlace) → List (List (List ℕ)) → List ContourPlace → Type 0

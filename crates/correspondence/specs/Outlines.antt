@@ -12,11 +12,15 @@ pub record Layer : Type 0 where
   pub outlines : List (List Point)
 
 -- a point at the height of its section
-abbrev pub point_at : ℤ → Spot → Point
-point_at z p = record { x = p.0; y = p.1; z = z }
+abbrev pub spot_point : ℤ → Spot → Point
+spot_point z p = record { x = p.0; y = p.1; z = z }
 
 abbrev pub layer : SectionParts → Layer
-layer s = record { names = map (λ c. c.name) s.contours; outlines = map (λ c. map (point_at s.z) c.points) s.contours }
+layer s = record {
+  names = map (λ c. c.name) s.contours;
+  outlines =
+      map (λ c. map (spot_point s.z) c.points) s.contours;
+}
 
 -- the contours that the code holds
 abbrev pub held_layer : Section → Layer

@@ -13,4 +13,5 @@ Overlap one other = Touch one other ⊎ (Inside (first_point one) other ⊎ Insi
 
 -- bounds enclose the first n contours, each its own
 abbrev pub EncloseEach : List Bounds → List (List Point) → ℕ → Type 0
-EncloseEach bounds contours n = (k : ℕ) (d : Bounds) → k < n → Encloses (slice_index_or bounds k d) (contour_at contours k)
+EncloseEach bounds contours n = (k : ℕ) (d : Bounds) → k < n
+    → Encloses (slice_index_or bounds k d) (contour_at contours k)

@@ -7,7 +7,7 @@ ghost use Rattle.plane_geom.specs.Rings.{around};
 ghost use Rattle.plane_geom.specs.Segments.{SharePoint};
 ghost use Rattle.correspondence.specs.Bounding.{Encloses, LiesWithin};
 ghost use Rattle.correspondence.specs.Blocks.{IsBlock};
-ghost use Rattle.correspondence.specs.Groups.{IsGroup};
+ghost use Rattle.correspondence.specs.Groups.{IsBoundedGroup};
 ghost use Rattle.correspondence.specs.Simple.{EdgesMeet};
 ghost use Rattle.correspondence.specs.Apart.{SegmentTouches, Touch, ContoursTouch, AreApart, IsCrossing};
 ghost use Rattle.correspondence.specs.Pairs.{NonePartner, FirstPartner, FirstPair};
@@ -219,7 +219,7 @@ fn touch_within(
 // `true` shows that a contour shares no point with those of a group that stand before it.
 fn is_apart(contours: &[Contour], group: &Group, second: usize) -> bool
     requires outlines { AreOutlines contours.now }
-    requires group { IsGroup (map points_of contours.now) group.now }
+    requires group { IsBoundedGroup (map points_of contours.now) group.now }
     requires second { second < length contours.now }
     ensures { IsTrue result
         → (first : ℕ) → group.now.begin ≤ first
@@ -243,7 +243,7 @@ fn is_apart(contours: &[Contour], group: &Group, second: usize) -> bool
 // `true` shows that no contour of a group shares a point with a later contour of the section.
 fn group_is_apart(contours: &[Contour], group: &Group) -> bool
     requires outlines { AreOutlines contours.now }
-    requires group { IsGroup (map points_of contours.now) group.now }
+    requires group { IsBoundedGroup (map points_of contours.now) group.now }
     ensures { IsTrue result
         → (first second : ℕ) → group.now.begin ≤ first
         → first < group.now.end

@@ -9,7 +9,7 @@ ghost use Rattle.correspondence.specs.Outlines.{held_layer, name_in};
 ghost use Rattle.correspondence.specs.Correspondences.{Alike, Agree, same_parity, links_names};
 ghost use Rattle.correspondence.specs.Overlaps.{Overlap, EncloseEach};
 ghost use Rattle.correspondence.specs.Graphs.{table_of, IsRow, AreRows};
-ghost use Rattle.correspondence.specs.Named.{IsTableOf, above_of};
+ghost use Rattle.correspondence.specs.Named.{IsLinkTableOf, above_of};
 
 use crate::bounds::Bounds;
 use crate::link_table::{LinkTable, is_among};
@@ -130,7 +130,7 @@ fn link_rows(
     table: &LinkTable,
 ) -> Result<Vec<Vec<bool>>, AllocError>
     ensures { IfOk result (λ v.
-        (links : List LinkParts) → IsTableOf table.now links
+        (links : List LinkParts) → IsLinkTableOf table.now links
         → AreRows (table_of v.items) (length low.now.contours.items) (length high.now.contours.items) (λ i j.
         list_any (links_names (name_in (held_layer low.now) i) (name_in (held_layer high.now) j)) links ≡ true)) }
 {
@@ -153,7 +153,7 @@ pub fn agreement(
     requires low { AreOutlines low.now.contours.items }
     requires high { AreOutlines high.now.contours.items }
     ensures { IfOk result (λ v.
-        (links : List LinkParts) → IsTableOf table.now links
+        (links : List LinkParts) → IsLinkTableOf table.now links
         → AreRows (table_of v.items) (length low.now.contours.items) (length high.now.contours.items)
         (Agree rule links (held_layer low.now) (held_layer high.now))) }
 {

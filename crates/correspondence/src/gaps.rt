@@ -6,7 +6,7 @@ ghost use Rattle.correspondence.specs.Places.{has};
 ghost use Rattle.correspondence.specs.Components.{AreComponents};
 ghost use Rattle.correspondence.specs.Graphs.{table_of, cell_links, IsGathered, AreBegun};
 ghost use Rattle.correspondence.specs.Gaps.{members_of, AreGapComponents};
-ghost use Rattle.correspondence.specs.Named.{IsTableOf};
+ghost use Rattle.correspondence.specs.Named.{IsLinkTableOf};
 
 use crate::correspondence_table::agreement;
 use crate::graph::{marked_places, reached};
@@ -108,7 +108,7 @@ pub fn components(
     gap: u32,
 ) -> Result<Vec<Component>, NoMemory>
     requires gap { gap + 1 < length sections.now.sections }
-    requires table { IsTableOf table.now sections.now.links }
+    requires table { IsLinkTableOf table.now sections.now.links }
     ensures { IfOk result (λ v. AreGapComponents sections.now gap v.items) }
 {
     let all = sections.sections();

@@ -4,7 +4,7 @@ ghost use Rattle.std.specs.Prelude.{ℕ, List, ◌≡◌, ◌+◌, ◌<◌, ◌�
 ghost use Rattle.fku_types.specs.declared.points.Point.{Point};
 ghost use Rattle.correspondence.specs.Bounding.{Encloses};
 ghost use Rattle.correspondence.specs.Contours.{AreOutlines, points_of, contour_at};
-ghost use Rattle.correspondence.specs.Groups.{IsGroup, AreGroups};
+ghost use Rattle.correspondence.specs.Groups.{IsBoundedGroup, AreGroups};
 
 use crate::bounds::Bounds;
 use section_core::Contour;
@@ -39,7 +39,7 @@ impl Group {
     pub fn at(contours: &[Contour], begin: usize) -> Group
         requires outlines { AreOutlines contours.now }
         requires within { begin < length contours.now }
-        ensures group { IsGroup (map points_of contours.now) result }
+        ensures group { IsBoundedGroup (map points_of contours.now) result }
         ensures begin { result.begin ≡ begin }
     {
         let end = contours.len().min(begin + GROUP);
@@ -62,7 +62,7 @@ impl Group {
     pub fn bounds_of(&self, place: usize) -> Bounds
         requires from { self.now.begin ≤ place }
         requires to { place < self.now.begin + GROUP }
-        ensures { (contours : List (List Point)) → IsGroup contours self.now
+        ensures { (contours : List (List Point)) → IsBoundedGroup contours self.now
             → place < self.now.end
             → Encloses result (contour_at contours place) }
     {

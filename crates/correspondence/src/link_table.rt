@@ -58,11 +58,11 @@ fn all_above(alloc: Global, links: &[Link]) -> Result<IndexMap<Name, Vec<Name>>,
 
 impl LinkTable {
     ghost use Rattle.std.specs.Prelude.{◌≡◌, IfOk};
-    ghost use Rattle.correspondence.specs.Named.{IsTableOf, above_of};
+    ghost use Rattle.correspondence.specs.Named.{IsLinkTableOf, above_of};
 
     /// The names of the links of sections; or `NoMemory`. Takes no memory if there are none.
     pub fn of(alloc: Global, sections: &Sections) -> Result<LinkTable, NoMemory>
-        ensures { IfOk result (λ t. IsTableOf t sections.now.links) }
+        ensures { IfOk result (λ t. IsLinkTableOf t sections.now.links) }
     {
         let above = all_above(alloc, sections.links())?;
         Ok(LinkTable { above })

@@ -6,7 +6,7 @@ ghost use Rattle.fku_types.specs.Points.{IsInRange};
 ghost use Rattle.plane_geom.specs.Nesting.{CountedAmong, Inside, is_inside};
 ghost use Rattle.plane_geom.specs.RingViews.{ring_view, ring_views, IsContour};
 ghost use Rattle.correspondence.specs.Bounding.{Encloses};
-ghost use Rattle.correspondence.specs.Groups.{IsGroup, AreGroups};
+ghost use Rattle.correspondence.specs.Groups.{IsBoundedGroup, AreGroups};
 ghost use Rattle.correspondence.specs.Contours.{IsOutline, AreOutlines, points_of, point_lists, contour_at};
 ghost use Rattle.correspondence.specs.Nesting.{lies_in, LiesIn, depth, depths, AreDepths, IsDepthAmong, is_turned, turned, ring_from, oriented};
 
@@ -94,7 +94,7 @@ fn lies_within(contours: &[Contour], place: usize, other: usize, bounds: Bounds)
 // Adds the contours of a group in which the contour at a place lies to the number of those before the group.
 fn depth_past(contours: &[Contour], group: &Group, place: usize, before: u32) -> u32
     requires outlines { AreOutlines contours.now }
-    requires group { IsGroup (map points_of contours.now) group.now }
+    requires group { IsBoundedGroup (map points_of contours.now) group.now }
     requires place { place < length contours.now }
     requires before { IsDepthAmong (map points_of contours.now) place group.now.begin before }
     ensures { IsDepthAmong (map points_of contours.now) place group.now.end result }

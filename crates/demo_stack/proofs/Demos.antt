@@ -7,10 +7,10 @@ use Rattle.fku_types.specs.declared.limits.TheConstants.{MAX_CONTOUR_VERTICES, M
 use Rattle.fku_types.specs.Points.{IsCoordinate}
 use Rattle.fku_types.specs.declared.rules.PairRule.TheVariants.{Overlap}
 use Rattle.fku_types.proofs.ListLaws.{all_map, all_flat}
-use Rattle.section_core.specs.Parts.{span, ContourParts, SectionParts, LinkParts, IsContour, asked, contours_of}
+use Rattle.section_core.specs.Parts.{span, ContourParts, SectionParts, LinkParts, IsCountedContour, asked, contours_of}
 use Rattle.section_core.specs.Laws.{IsSpot, AreDistinct, AreRising, IsLawful, heights, names, counts, points, section_vertices}
 use Rattle.section_core.specs.Accepted.{IsAccepted}
-use Rattle.demo_stack.specs.Demo.{state_after, vertex, name, contour, section, demo}
+use Rattle.demo_stack.specs.Demo.{state_after, demo_vertex, name, contour, section, demo}
 use Rattle.demo_stack.proofs.Lists.{all_range, map_map, sum_same}
 use Rattle.demo_stack.proofs.Names.{name_is, name_one}
 use Rattle.demo_stack.proofs.Spots.{spot_in_range}
@@ -20,11 +20,11 @@ contours_are seed k [] = refl
 contours_are seed k (x ∷ xs) = ap (λ (cs : List ContourParts). contour seed k x ∷ cs) (contours_are seed k xs)
 
 -- ---- each contour
-contour_is : (seed k s : ℕ) → s < 64 → IsContour (contour seed k s)
-contour_is seed k s h = (name_is s h, length-map-range_with_len (vertex seed k s) 0 k)
+contour_is : (seed k s : ℕ) → s < 64 → IsCountedContour (contour seed k s)
+contour_is seed k s h = (name_is s h, length-map-range_with_len (demo_vertex seed k s) 0 k)
 
 spots_are : (seed k s : ℕ) → AllByRecursion IsSpot (contour seed k s).points
-spots_are seed k s = all_range IsSpot (vertex seed k s) 0 k (λ t l m. spot_in_range (state_after seed (s * k + t + 1)) k t (omega arith))
+spots_are seed k s = all_range IsSpot (demo_vertex seed k s) 0 k (λ t l m. spot_in_range (state_after seed (s * k + t + 1)) k t (omega arith))
 
 -- ---- names and heights
 names_distinct : (a n : ℕ) → a + n ≤ 64 → AreDistinct (map name (range_with_len a n))
@@ -62,9 +62,9 @@ points_are : (seed n k : ℕ) → points (stack seed n k) ≡ flat_map (λ (c : 
 unfolding stack
 points_are seed n k = ap (flat_map (λ (c : ContourParts). c.points)) (contours_are seed k (range_with_len 0 n))
 
-all_contours : (seed n k : ℕ) → n ≤ 64 → AllByRecursion IsContour (contours_of (stack seed n k))
+all_contours : (seed n k : ℕ) → n ≤ 64 → AllByRecursion IsCountedContour (contours_of (stack seed n k))
 unfolding stack
-all_contours seed n k h = subst (AllByRecursion IsContour) (sym (contours_are seed k (range_with_len 0 n))) (all_range IsContour (contour seed k) 0 n (λ s l m. contour_is seed k s (omega arith)))
+all_contours seed n k h = subst (AllByRecursion IsCountedContour) (sym (contours_are seed k (range_with_len 0 n))) (all_range IsCountedContour (contour seed k) 0 n (λ s l m. contour_is seed k s (omega arith)))
 
 all_heights : (seed n k : ℕ) → n ≤ 64 → AllByRecursion IsCoordinate (heights (stack seed n k))
 all_heights seed n k h = subst (AllByRecursion IsCoordinate) (sym (heights_are seed n k)) (all_range IsCoordinate (λ (s : ℕ). pos (1000 * s)) 0 n (λ s l m. height_small s (omega arith)))

@@ -4,7 +4,7 @@ use Rattle.std.specs.Prelude.{codes}
 use Rattle.std.specs.Fmt.{digits}
 use Rattle.section_core.specs.Parts.{span}
 use Rattle.fku_types.specs.declared.rules.PairRule.TheVariants.{Overlap}
-use Rattle.demo_stack.specs.Demo.{state_after, radius, place, name, direction, vertex, demo}
+use Rattle.demo_stack.specs.Demo.{state_after, radius, place, name, direction, demo_vertex, demo}
 
 pub state-first : state_after 7 1 ≡ 1282168116
 unfolding state_after
@@ -47,7 +47,7 @@ pub direction-bottom : direction 7999 ≡ (pos 999, negsuc 999)
 direction-bottom = refl
 
 -- the first vertex of seed 7
-pub vertex-first : vertex 7 100 0 0 ≡ (pos 164000, negsuc 163999)
+pub vertex-first : demo_vertex 7 100 0 0 ≡ (pos 164000, negsuc 163999)
 unfolding state_after
 vertex-first = refl
 

@@ -35,13 +35,13 @@ abbrev pub drawn : ℕ → Spot → Spot
 drawn r d = (pos r *ℤ d.0, pos r *ℤ d.1)
 
 -- vertex t of k, for this state
-abbrev pub spot_at : ℕ → ℕ → ℕ → Spot
-spot_at state k t = drawn (radius state) (direction (place t k))
+abbrev pub demo_spot : ℕ → ℕ → ℕ → Spot
+demo_spot state k t = drawn (radius state) (direction (place t k))
 
 -- vertex t of section s, if each section has k vertices: the state has gone one step for each vertex before it, over
 -- all sections, and one for itself
-abbrev pub vertex : ℕ → ℕ → ℕ → ℕ → Spot
-vertex seed k s t = spot_at (state_after seed (s * k + t + 1)) k t
+abbrev pub demo_vertex : ℕ → ℕ → ℕ → ℕ → Spot
+demo_vertex seed k s t = demo_spot (state_after seed (s * k + t + 1)) k t
 
 -- the name of the contour of section s
 abbrev pub name : ℕ → List ℕ
@@ -49,7 +49,7 @@ name s = codes "c" ++ decimal s
 
 -- the contour of section s
 abbrev pub contour : ℕ → ℕ → ℕ → ContourParts
-contour seed k s = record { name = name s; count = pos k; points = map (vertex seed k s) (range_with_len 0 k) }
+contour seed k s = record { name = name s; count = pos k; points = map (demo_vertex seed k s) (range_with_len 0 k) }
 
 -- section s
 abbrev pub section : ℕ → ℕ → ℕ → SectionParts

@@ -4,7 +4,7 @@
 ghost use Rattle.std.specs.Prelude.{◌≡◌, ℕ, ◌+◌, ◌*◌, ◌<◌, ◌≤◌, ◌^◌, map, pos, ◌*ℤ◌, unsigned_abs, IfOk, OnOk};
 ghost use Rattle.std.specs.List.{range_with_len, AllByRecursion};
 ghost use Rattle.section_core.specs.Views.{spot_of};
-ghost use Rattle.demo_stack.specs.Demo.{next, state_after, radius, place, direction, spot_at};
+ghost use Rattle.demo_stack.specs.Demo.{next, state_after, radius, place, direction, demo_spot};
 
 use fku_types::limits::MAX_DEMO_VERTICES;
 use fku_types::{NoMemory, Point, Spot};
@@ -87,7 +87,7 @@ fn drawn(radius: i32, direction: i32) -> i32
 fn vertex(state: u32, index: u32, vertices: u32, z: i32) -> Point
     requires index { index < vertices }
     requires few { vertices ≤ MAX_DEMO_VERTICES }
-    ensures spot { spot_of result ≡ spot_at state vertices index }
+    ensures spot { spot_of result ≡ demo_spot state vertices index }
     ensures level { result.z ≡ z }
 {
     let radius = radius(state);
@@ -111,7 +111,7 @@ pub fn vertices_from(
     ensures spots { (seed n : ℕ) → state.old ≡ state_after seed n
         → IfOk result (λ points.
         map spot_of points.items
-        ≡ map (λ t. spot_at (state_after seed (n + t + 1)) vertices t) (range_with_len 0 vertices)) }
+        ≡ map (λ t. demo_spot (state_after seed (n + t + 1)) vertices t) (range_with_len 0 vertices)) }
     ensures level { IfOk result (λ points. AllByRecursion (λ (p : Point). p.z ≡ z) points.items) }
     ensures state { (seed n : ℕ) → state.old ≡ state_after seed n
         → OnOk result (state.new ≡ state_after seed (n + vertices)) }

@@ -2,7 +2,7 @@
 ghost use Rattle.std.specs.Prelude.{◌≡◌, ℕ, ◌+◌, ◌*◌, ◌<◌, ◌≤◌, ◌^◌, map, IfOk, OnOk};
 ghost use Rattle.std.specs.List.{range_with_len};
 ghost use Rattle.section_core.specs.Views.{contour_parts, section_parts};
-ghost use Rattle.section_core.specs.Flat.{IsLevel, IsFlat, AreFlat};
+ghost use Rattle.section_core.specs.Flat.{IsAtHeight, IsFlat, AreFlat};
 ghost use Rattle.demo_stack.specs.Demo.{state_after, name, contour, section, demo};
 
 use crate::generator::vertices_from;
@@ -102,7 +102,7 @@ fn contour(
     requires few_vertices { vertices ≤ MAX_DEMO_VERTICES }
     ensures parts { (seed : ℕ) → state.old ≡ state_after seed (index * vertices)
         → IfOk result (λ c. contour_parts c ≡ contour seed vertices index) }
-    ensures level { IfOk result (IsLevel z) }
+    ensures level { IfOk result (IsAtHeight z) }
     ensures state { (seed : ℕ) → state.old ≡ state_after seed (index * vertices)
         → OnOk result (state.new ≡ state_after seed ((index + 1) * vertices)) }
     ensures range { state.new < 2 ^ 31 }

@@ -8,7 +8,7 @@ use Rattle.std.proofs.lemmas.List.Sorted.{IsPermutation-sym, IsPermutation-trans
 use Rattle.std.proofs.Math.Nat.{add_assoc}
 use Rattle.landmarks.specs.declared.marks.Mark.{Mark}
 use Rattle.landmarks.specs.declared.pieces.Piece.{Piece}
-use Rattle.landmarks.specs.Faults.{mark_at, after}
+use Rattle.landmarks.specs.Faults.{mark_at, distance_after}
 use Rattle.landmarks.proofs.Rounds.{mod_cases, before_end, one_place}
 use Rattle.landmarks.proofs.Apart.{apart, inside, others}
 use Rattle.landmarks.proofs.Orders.{after_hi, after_lo, after_differs}
@@ -16,7 +16,7 @@ use Rattle.landmarks.proofs.Through.{rows_of, cols_of, rows_of-sum, cols_of-sum,
 use Rattle.landmarks.proofs.Soundness.{AreSet, start_in, laid_on, each_map, laid_set}
 
 -- the place of a mark, counted from r
-pub place_of : (m r s x : ℕ) → r < m → s < m → (r + s) % m ≡ x → after m r x ≡ s
+pub place_of : (m r s x : ℕ) → r < m → s < m → (r + s) % m ≡ x → distance_after m r x ≡ s
 place_of m r s x lr ls e =
     elim (mod_cases (r + s) m (omega arith)) [
       | inl p ↦ omega (arith, p.0, p.1, e, after_hi m r x (omega (arith, p.0, p.1, e)) (omega (arith, p.1, e)))
@@ -103,14 +103,14 @@ differ_of [] h = tt
 differ_of (x ∷ xs) h = (All-from_get_or (λ k. k.row ≡ x.row → ⊥) xs (record { row = 0; col = 0 }) (λ i lt e. h 0 (suc i) (omega arith) (omega arith) (sym e)), differ_of xs (λ i j lt le e. h (suc i) (suc j) (omega arith) (omega arith) e))
 
 -- the beginnings of pieces in turn, by their places from the first one
-above : (m n r c s t : ℕ) (ps : List Piece) → r < m → AreLaid m n (r + s) (c + t) ps → AreExact m n s t ps → All (λ k. s ≤ after m r k.row) (map (λ p. p.from) ps)
-above m n r c s t [] lr l x = All-nil (λ k. s ≤ after m r k.row)
+above : (m n r c s t : ℕ) (ps : List Piece) → r < m → AreLaid m n (r + s) (c + t) ps → AreExact m n s t ps → All (λ k. s ≤ distance_after m r k.row) (map (λ p. p.from) ps)
+above m n r c s t [] lr l x = All-nil (λ k. s ≤ distance_after m r k.row)
 above m n r c s t (p ∷ ps) lr l x =
-    All-cons (λ k. s ≤ after m r k.row) p.from (map (λ q. q.from) ps) (omega (arith, place_of m r s p.from.row lr x.0 l.0))
-    (All-weaker (λ k. s + p.rows ≤ after m r k.row) (λ k. s ≤ after m r k.row) (λ k h. omega (arith, h)) (map (λ q. q.from) ps)
+    All-cons (λ k. s ≤ distance_after m r k.row) p.from (map (λ q. q.from) ps) (omega (arith, place_of m r s p.from.row lr x.0 l.0))
+    (All-weaker (λ k. s + p.rows ≤ distance_after m r k.row) (λ k. s ≤ distance_after m r k.row) (λ k h. omega (arith, h)) (map (λ q. q.from) ps)
     (above m n r c (s + p.rows) (t + p.cols) ps lr (subst₂ (λ (i j : ℕ). AreLaid m n i j ps) (add_assoc r s p.rows) (add_assoc c t p.cols) l.2) x.2))
 
-pub rising : (m n r c s t : ℕ) (ps : List Piece) → r < m → AreLaid m n (r + s) (c + t) ps → AreExact m n s t ps → All (λ k. k.row < m) (map (λ p. p.from) ps) → Differ (map (λ p. p.from) ps) → Rising (λ k. after m r k.row) (map (λ p. p.from) ps)
+pub rising : (m n r c s t : ℕ) (ps : List Piece) → r < m → AreLaid m n (r + s) (c + t) ps → AreExact m n s t ps → All (λ k. k.row < m) (map (λ p. p.from) ps) → Differ (map (λ p. p.from) ps) → Rising (λ k. distance_after m r k.row) (map (λ p. p.from) ps)
 rising m n r c s t [] lr l x low d = tt
 rising m n r c s t (p ∷ ps) lr l x low d =
     let froms = map (λ (q : Piece). q.from) ps in
@@ -121,12 +121,12 @@ rising m n r c s t (p ∷ ps) lr l x low d =
       rising m n r c (s + p.rows) (t + p.cols) ps lr laid x.2 low' d.1,
     )
   where
-    here : after m r p.from.row ≡ s
+    here : distance_after m r p.from.row ≡ s
     here = place_of m r s p.from.row lr x.0 l.0
 
-    strict : (z : Mark) → s + p.rows ≤ after m r z.row → (z.row ≡ p.from.row → ⊥) → z.row < m → after m r p.from.row < after m r z.row
+    strict : (z : Mark) → s + p.rows ≤ distance_after m r z.row → (z.row ≡ p.from.row → ⊥) → z.row < m → distance_after m r p.from.row < distance_after m r z.row
     strict z h ne lz =
-        elim (cases_lt (after m r p.from.row) (after m r z.row)) [
+        elim (cases_lt (distance_after m r p.from.row) (distance_after m r z.row)) [
           | inl less ↦ less
           | inr ge ↦ absurd (after_differs m r z.row p.from.row lr lz (All-head (λ k. k.row < m) p.from (map (λ q. q.from) ps) low) ne (omega (arith, here, h)))
         ]
@@ -149,7 +149,7 @@ exact_set m n marks at (p ∷ ps) s =
     zero_add x y = omega arith
 
 -- they rise
-rising_set : (m n : ℕ) (marks : List Mark) (at : Mark) (ps : List Piece) → AreSet m n marks at ps → Rising (λ k. after m at.row k.row) (map (λ p. p.from) ps)
+rising_set : (m n : ℕ) (marks : List Mark) (at : Mark) (ps : List Piece) → AreSet m n marks at ps → Rising (λ k. distance_after m at.row k.row) (map (λ p. p.from) ps)
 rising_set m n marks at ps s =
     let froms = map (λ (q : Piece). q.from) ps in
     rising m n at.row at.col 0 0 ps (start_in m n marks at ps s).0 (laid_set m n marks at ps s) (exact_set m n marks at ps s) (All-weaker (λ k. (k.row < m) × (k.col < n)) (λ k. k.row < m) (λ k h. h.0) froms (inside m n marks froms s.good s.begins))
@@ -162,5 +162,5 @@ alike_set m n marks at ps qs s u =
     let xs = map (λ (q : Piece). q.from) ps in
     let ys = map (λ (q : Piece). q.from) qs in
     let same : IsPermutation xs ys = IsPermutation-trans xs marks ys (IsPermutation-sym marks xs s.begins) u.begins in
-    let e = same_rising (λ k. after m at.row k.row) xs ys (rising_set m n marks at ps s) (rising_set m n marks at qs u) (All-permutation (Contains ys) ys xs (IsPermutation-sym xs ys same) (All-contains_itself ys)) (All-permutation (Contains xs) xs ys same (All-contains_itself xs)) in
+    let e = same_rising (λ k. distance_after m at.row k.row) xs ys (rising_set m n marks at ps s) (rising_set m n marks at qs u) (All-permutation (Contains ys) ys xs (IsPermutation-sym xs ys same) (All-contains_itself ys)) (All-permutation (Contains xs) xs ys same (All-contains_itself xs)) in
     alike m n at.row at.col 0 0 ps qs start.0 start.1 e (laid_set m n marks at ps s) (laid_set m n marks at qs u) (exact_set m n marks at ps s) (exact_set m n marks at qs u)

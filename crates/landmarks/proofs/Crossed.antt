@@ -10,7 +10,7 @@ use Rattle.landmarks.specs.declared.marks.Mark.{Mark}
 use Rattle.landmarks.specs.declared.marks.MarkFault.{MarkFault}
 use Rattle.landmarks.specs.declared.marks.MarkFault.TheVariants.{Cross}
 use Rattle.landmarks.specs.Marks.{Passes, IsMarked, HaveNoTiling}
-use Rattle.landmarks.specs.Faults.{mark_at, after, ShareLine, GoAcross, IsRepeated, IsCrossed, FollowsGood, IsFirstFault}
+use Rattle.landmarks.specs.Faults.{mark_at, distance_after, ShareLine, GoAcross, IsRepeated, MarksCross, FollowsGood, IsFirstFaultOfMarks}
 use Rattle.landmarks.proofs.Orders.{after_hi}
 use Rattle.landmarks.proofs.Turning.{Turned, turn, Longer, fronts}
 use Rattle.landmarks.proofs.Rounds.{before_end}
@@ -19,8 +19,8 @@ use Rattle.landmarks.proofs.Alike.{place_of}
 -- a word from a span of the pair, at the place where it passes a mark, has gone as far as the mark's distance from that
 -- span
 record IsPassed (m n : ℕ) (o k : Mark) (front : List Step) : Type 0 where
-  rows_on : after m o.row k.row ≡ count_v front
-  cols_on : after n o.col k.col ≡ count_h front
+  rows_on : distance_after m o.row k.row ≡ count_v front
+  cols_on : distance_after n o.col k.col ≡ count_h front
 
 passed : (m n : ℕ) (o k : Mark) (w : List Step) → HasLetters m n w → o.row < m → o.col < n → (p : Passes m n o.row o.col w k) → (ShareLine o k → ⊥) → IsPassed m n o k p.front
 passed m n o k w l lr lc p apart = record {
@@ -28,7 +28,7 @@ passed m n o k w l lr lc p apart = record {
   cols_on = at n o.col (count_h p.front) k.col lc (omega (arith, l.h, ap count_h p.joins, count_h-append p.front p.back)) p.col (λ d. apart (inr (sym d)));
 }
   where
-    at : (m r f x : ℕ) → r < m → f ≤ m → (r + f) % m ≡ x → (x ≡ r → ⊥) → after m r x ≡ f
+    at : (m r f x : ℕ) → r < m → f ≤ m → (r + f) % m ≡ x → (x ≡ r → ⊥) → distance_after m r x ≡ f
     at m r f x lt le e ne = place_of m r f x lt (before_end m r f x lt le e ne) e
 
 -- its rows and its columns rise together, so two marks that it passes do not cross
@@ -40,7 +40,7 @@ straight m n o e k w l lr lc p q apart apart' x = by (fronts p.front p.back q.fr
     by (inr y) s t = omega (arith, x.0, s.rows_on, t.rows_on, ap count_v y.front, count_v-append q.front y.rest)
 
 -- no tiling contains a mark that crosses an earlier one, and the marks before it
-crossed : (p : Strip) (marks : List Mark) (q : ℕ) → FollowsGood (rows p) (cols p) marks q → (IsRepeated marks q → ⊥) → IsCrossed (rows p) (cols p) marks q → HaveNoTiling (rows p) (cols p) (take (q + 1) marks)
+crossed : (p : Strip) (marks : List Mark) (q : ℕ) → FollowsGood (rows p) (cols p) marks q → (IsRepeated marks q → ⊥) → MarksCross (rows p) (cols p) marks q → HaveNoTiling (rows p) (cols p) (take (q + 1) marks)
 crossed p marks q f new c i j w k = by c.earlier c.before c.across
   where
     m : ℕ
@@ -82,7 +82,7 @@ crossed p marks q f new c i j w k = by c.earlier c.before c.across
     by (suc e) lt (inl x) = straight m n o (mark_at marks (suc e)) (mark_at marks q) t.word t.marked.acceptable.letters row col (at (suc e) (omega arith)) (at q (omega arith)) (apart (suc e) (omega arith) lt) (last (omega arith)) x
     by (suc e) lt (inr x) = straight m n o (mark_at marks q) (mark_at marks (suc e)) t.word t.marked.acceptable.letters row col (at q (omega arith)) (at (suc e) (omega arith)) (last (omega arith)) (apart (suc e) (omega arith) lt) x
 
-pub no_tiling : (p : Strip) (marks : List Mark) (f : MarkFault) → IsFirstFault (rows p) (cols p) marks f → (q : ℕ) → f ≡ Cross q → HaveNoTiling (rows p) (cols p) (take (q + 1) marks)
+pub no_tiling : (p : Strip) (marks : List Mark) (f : MarkFault) → IsFirstFaultOfMarks (rows p) (cols p) marks f → (q : ℕ) → f ≡ Cross q → HaveNoTiling (rows p) (cols p) (take (q + 1) marks)
 no_tiling p marks f is q e =
-    let c : IsFirstFault (rows p) (cols p) marks (Cross q) = subst (IsFirstFault (rows p) (cols p) marks) e is in
+    let c : IsFirstFaultOfMarks (rows p) (cols p) marks (Cross q) = subst (IsFirstFaultOfMarks (rows p) (cols p) marks) e is in
     crossed p marks q c.0 c.2 c.3

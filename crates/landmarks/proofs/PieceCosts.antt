@@ -9,7 +9,7 @@ use Rattle.strip_graph.proofs.WordLaws.{Periodic, word_cost-append, word_cost-at
 use Rattle.strip_graph.proofs.LeastWords.{distance-le}
 use Rattle.landmarks.specs.declared.pieces.Piece.{Piece}
 use Rattle.landmarks.specs.Pieces.{AreParts, IsBound, phi_at}
-use Rattle.landmarks.specs.Chains.{AreFirst}
+use Rattle.landmarks.specs.Chains.{AreOfCanonicalWords}
 use Rattle.std.proofs.Math.Nat.{mod-eq_of_lt}
 use Rattle.std.specs.List.{AllByRecursion}
 use Rattle.landmarks.proofs.Rounds.{word_cost-same}
@@ -105,7 +105,7 @@ not_after-append (H ∷ u) (V ∷ v) w x e p q = absurd p
 not_after-append (H ∷ u) (H ∷ v) w x e p q = not_after-append u v w x (omega (arith, e)) p q
 
 -- canonical parts cost least together
-least_parts : (a : Arcs) (m n i j : ℕ) (ps : List Piece) (w u : List Step) → Periodic a m n → AreInside m n ps → AreLaid m n i j ps → AreFirst a ps w → GoesThrough ps u → word_cost a i j w ≤ word_cost a i j u
+least_parts : (a : Arcs) (m n i j : ℕ) (ps : List Piece) (w u : List Step) → Periodic a m n → AreInside m n ps → AreLaid m n i j ps → AreOfCanonicalWords a ps w → GoesThrough ps u → word_cost a i j w ≤ word_cost a i j u
 least_parts a m n i j [] w u per k l f g = omega (arith, ap (word_cost a i j) f)
 least_parts a m n i j (p ∷ ps) w u per k l f g =
     omega (
@@ -118,7 +118,7 @@ least_parts a m n i j (p ∷ ps) w u per k l f g =
     )
 
 -- and together they are first among the words through the pieces that cost no more
-pub first_parts : (a : Arcs) (m n i j : ℕ) (ps : List Piece) (w u : List Step) → Periodic a m n → AreInside m n ps → AreLaid m n i j ps → AreFirst a ps w → GoesThrough ps u → word_cost a i j u ≤ word_cost a i j w → IsNotAfter w u
+pub first_parts : (a : Arcs) (m n i j : ℕ) (ps : List Piece) (w u : List Step) → Periodic a m n → AreInside m n ps → AreLaid m n i j ps → AreOfCanonicalWords a ps w → GoesThrough ps u → word_cost a i j u ≤ word_cost a i j w → IsNotAfter w u
 first_parts a m n i j [] w u per k l f g le = subst (λ (x : List Step). IsNotAfter x u) (sym f) tt
 first_parts a m n i j (p ∷ ps) w u per k l f g le =
     let w1 = take (p.rows + p.cols) w in

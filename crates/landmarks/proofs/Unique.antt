@@ -14,7 +14,7 @@ use Rattle.landmarks.specs.declared.marks.Mark.{Mark}
 use Rattle.landmarks.specs.declared.pieces.Piece.{Piece}
 use Rattle.landmarks.specs.declared.pieces.Marked.{Marked}
 use Rattle.landmarks.specs.Marks.{IsLeastMarked, IsChosenMarked}
-use Rattle.landmarks.specs.Faults.{mark_at, AreGood}
+use Rattle.landmarks.specs.Faults.{mark_at, AreSoundMarks}
 use Rattle.landmarks.specs.Pieces.{IsLeastPiece}
 use Rattle.landmarks.specs.Marked.{SolvesMarked, Part, part_of, SaySame}
 use Rattle.landmarks.proofs.Apart.{apart}
@@ -52,7 +52,7 @@ parts_same a (p ∷ ps) (q ∷ qs) e k l =
     ap₂ (λ (x : Part) (xs : List Part). x ∷ xs) (part_same a p q e.0 (All-head (IsLeastPiece a) p ps k) (All-head (IsLeastPiece a) q qs l)) (parts_same a ps qs e.1 (All-tail (IsLeastPiece a) p ps k) (All-tail (IsLeastPiece a) q qs l))
 
 -- marks of one row are equal
-same_row : (m n : ℕ) (marks : List Mark) (x y : Mark) → AreGood m n marks → Contains marks x → Contains marks y → x.row ≡ y.row → x ≡ y
+same_row : (m n : ℕ) (marks : List Mark) (x y : Mark) → AreSoundMarks m n marks → Contains marks x → Contains marks y → x.row ≡ y.row → x ≡ y
 same_row m n marks x y g (i, li, ei) (j, lj, ej) e = by (cases_lt i j) (cases_lt j i)
   where
     at_i : x ≡ mark_at marks i
@@ -70,7 +70,7 @@ same_row m n marks x y g (i, li, ei) (j, lj, ej) e = by (cases_lt i j) (cases_lt
     by (inr le) (inr ge) = let same : i ≡ j = omega arith in at_i ∙ ap (mark_at marks) same ∙ sym at_j
 
 -- the chosen marked tiling is unique
-pub chosen_marked_unique : (a : Arcs) (m n : ℕ) (marks : List Mark) (at at' : Mark) (w w' : List Step) → AreGood m n marks → IsChosenMarked a m n marks at w → IsChosenMarked a m n marks at' w' → (at ≡ at') × (w ≡ w')
+pub chosen_marked_unique : (a : Arcs) (m n : ℕ) (marks : List Mark) (at at' : Mark) (w w' : List Step) → AreSoundMarks m n marks → IsChosenMarked a m n marks at w → IsChosenMarked a m n marks at' w' → (at ≡ at') × (w ≡ w')
 chosen_marked_unique a m n marks at at' w w' g f h =
     let row : at.row ≡ at'.row = omega (arith, All-contains (λ e. at.row ≤ e.row) marks at' f.start.least h.start.is_mark, All-contains (λ e. at'.row ≤ e.row) marks at h.start.least f.start.is_mark) in
     let e : at ≡ at' = same_row m n marks at at' g f.start.is_mark h.start.is_mark row in
@@ -79,7 +79,7 @@ chosen_marked_unique a m n marks at at' w w' g f h =
     (e, not_after_both w w' (f.first_word w' back) (h.first_word w there))
 
 -- the solution is unique
-pub solved_marked_unique : (p : Strip) (marks : List Mark) (t u : Marked) → AreGood (rows p) (cols p) marks → SolvesMarked p marks t → SolvesMarked p marks u → SaySame t u
+pub solved_marked_unique : (p : Strip) (marks : List Mark) (t u : Marked) → AreSoundMarks (rows p) (cols p) marks → SolvesMarked p marks t → SolvesMarked p marks u → SaySame t u
 solved_marked_unique p marks t u g s v =
     let k = chosen_marked_unique (arcs p) (rows p) (cols p) marks t.at u.at t.word.items u.word.items g s.chosen v.chosen in
     let set = subst (λ (x : Mark). AreSet (rows p) (cols p) marks x u.pieces.items) (sym k.0) (holds_set p marks u g v.holds) in

@@ -22,9 +22,9 @@ use Rattle.landmarks.specs.declared.marks.MarkFault.TheVariants.{NoSpan, Cross}
 use Rattle.landmarks.specs.declared.pieces.Piece.{Piece}
 use Rattle.landmarks.specs.declared.pieces.Marked.{Marked}
 use Rattle.landmarks.specs.Marks.{Passes, IsFirstMark}
-use Rattle.landmarks.specs.Faults.{mark_at, ShareLine, GoAcross, IsGood, IsFirstFault, HasNoSpan}
-use Rattle.landmarks.specs.Pieces.{AreJoined, AreParts, HasValues, IsBound, phi_at}
-use Rattle.landmarks.specs.Marked.{Holds}
+use Rattle.landmarks.specs.Faults.{mark_at, ShareLine, GoAcross, IsGood, IsFirstFaultOfMarks, HasNoSpan}
+use Rattle.landmarks.specs.Pieces.{AreJoined, AreParts, HasPieceValues, IsBound, phi_at}
+use Rattle.landmarks.specs.Marked.{HoldsMarked}
 
 abbrev mark : ℕ → ℕ → Mark
 mark i j = record { row = i; col = j }
@@ -103,7 +103,7 @@ two_bounds : (v : Vec ℤ Global) → IsBound (arcs squares) (piece 0 0 2 2 600 
 unfolding arcs around distance_square square
 two_bounds v = (bound (arcs squares) (piece 0 0 2 2 600 (two_values v)) tt tt tt, bound (arcs squares) (piece 2 2 2 2 600 (two_values v)) tt tt tt)
 
-two_hold : (v : Vec ℤ Global) → Holds squares (mark 2 2 ∷ mark 0 0 ∷ []) (two_marked v)
+two_hold : (v : Vec ℤ Global) → HoldsMarked squares (mark 2 2 ∷ mark 0 0 ∷ []) (two_marked v)
 two_hold v = record {
   joined = two_joined (two_values v);
   begins = record { moves = (0, 1) ∷ []; below = (lit< tt, lit< tt, tt); is = refl };
@@ -112,7 +112,7 @@ two_hold v = record {
   letters = record { v = refl; h = refl };
   parts = two_parts (two_values v);
   cost = refl;
-  values = All-cons HasValues p (q ∷ []) (has p refl (modest p.phi.items tt)) (All-cons HasValues q [] (has q refl (modest q.phi.items tt)) (All-nil HasValues));
+  values = All-cons HasPieceValues p (q ∷ []) (has p refl (modest p.phi.items tt)) (All-cons HasPieceValues q [] (has q refl (modest q.phi.items tt)) (All-nil HasPieceValues));
   bounds = All-cons (IsBound (arcs squares)) p (q ∷ []) (two_bounds v).0 (All-cons (IsBound (arcs squares)) q [] (two_bounds v).1 (All-nil (IsBound (arcs squares))));
 }
   where
@@ -122,7 +122,7 @@ two_hold v = record {
     q : Piece
     q = piece 2 2 2 2 600 (two_values v)
 
-    has : (p : Piece) → length p.phi.items ≡ (p.rows + 1) * (p.cols + 1) → All IsModest p.phi.items → HasValues p
+    has : (p : Piece) → length p.phi.items ≡ (p.rows + 1) * (p.cols + 1) → All IsModest p.phi.items → HasPieceValues p
     has p count modest = record { count = count; modest = modest }
 
 -- three marks of which the last one crosses the one before it
@@ -150,9 +150,9 @@ three_good (suc (suc q)) lt = absurd (omega arith)
 three_spans : HasNoSpan 4 4 (mark 2 1) → ⊥
 three_spans h = elim h [ inl e ↦ omega (arith, e) | inr e ↦ omega (arith, e) ]
 
-three_cross : IsFirstFault 4 4 three (Cross 2)
+three_cross : IsFirstFaultOfMarks 4 4 three (Cross 2)
 three_cross = (record { there = lit< tt; earlier = three_good }, three_spans, (λ r. three_once r.earlier r.before r.shared), record { earlier = 1; before = lit< tt; across = inl (lit< tt, lit< tt) })
 
 -- a mark in a column that the pair does not have
-outside : IsFirstFault 4 4 (mark 0 4 ∷ []) (NoSpan 0)
+outside : IsFirstFaultOfMarks 4 4 (mark 0 4 ∷ []) (NoSpan 0)
 outside = (record { there = lit< tt; earlier = λ q lt. absurd (omega arith) }, inr (lit≤ tt))

@@ -18,17 +18,18 @@ abbrev pub ShareLine : Mark → Mark → Type 0
 ShareLine e k = (e.row ≡ k.row) ⊎ (e.col ≡ k.col)
 
 -- no two marks of a list share a row or a column
-abbrev pub AreApart : List Mark → Type 0
-AreApart marks = (i j : ℕ) → i < j → j < length marks → ShareLine (mark_at marks i) (mark_at marks j) → ⊥
+abbrev pub AreMarksApart : List Mark → Type 0
+AreMarksApart marks = (i j : ℕ) → i < j → j < length marks → ShareLine (mark_at marks i) (mark_at marks j) → ⊥
 
 -- the distance from index `from` to index x, counted round a ring of `count`: the remainder of x - from, for from ≤ x +
 -- count
-abbrev pub after : ℕ → ℕ → ℕ → ℕ
-after count from x = (x + count - from) % count
+abbrev pub distance_after : ℕ → ℕ → ℕ → ℕ
+distance_after count from x = (x + count - from) % count
 
 -- two marks cross: seen from a first mark, one has the smaller row and the larger column
 abbrev pub GoAcross : ℕ → ℕ → Mark → Mark → Mark → Type 0
-GoAcross m n o e k = (after m o.row e.row < after m o.row k.row) × (after n o.col k.col < after n o.col e.col)
+GoAcross m n o e k = (distance_after m o.row e.row < distance_after m o.row k.row)
+    × (distance_after n o.col k.col < distance_after n o.col e.col)
 
 -- an earlier mark of the list shares a row or a column with the mark at place q
 pub record IsRepeated (marks : List Mark) (q : ℕ) : Type 0 where
@@ -37,7 +38,7 @@ pub record IsRepeated (marks : List Mark) (q : ℕ) : Type 0 where
   pub shared : ShareLine (mark_at marks earlier) (mark_at marks q)
 
 -- seen from the first mark of the list, an earlier mark and the one at place q cross
-pub record IsCrossed (m n : ℕ) (marks : List Mark) (q : ℕ) : Type 0 where
+pub record MarksCross (m n : ℕ) (marks : List Mark) (q : ℕ) : Type 0 where
   pub earlier : ℕ
   pub before : earlier < q
   pub across : GoAcross m n (mark_at marks 0) (mark_at marks earlier) (mark_at marks q)
@@ -48,14 +49,14 @@ pub record IsGood (m n : ℕ) (marks : List Mark) (q : ℕ) : Type 0 where
   pub row : (mark_at marks q).row < m
   pub col : (mark_at marks q).col < n
   pub new : IsRepeated marks q → ⊥
-  pub straight : IsCrossed m n marks q → ⊥
+  pub straight : MarksCross m n marks q → ⊥
 
 -- marks are good at all places before a place
 abbrev pub AreGoodBefore : ℕ → ℕ → List Mark → ℕ → Type 0
 AreGoodBefore m n marks count = (q : ℕ) → q < count → IsGood m n marks q
 
 -- there are 1 to MAX_MARKS marks, and all of them are good
-pub record AreGood (m n : ℕ) (marks : List Mark) : Type 0 where
+pub record AreSoundMarks (m n : ℕ) (marks : List Mark) : Type 0 where
   pub some : 1 ≤ length marks
   pub few : length marks ≤ MAX_MARKS
   pub good : AreGoodBefore m n marks (length marks)
@@ -66,10 +67,10 @@ pub record FollowsGood (m n : ℕ) (marks : List Mark) (q : ℕ) : Type 0 where
   pub earlier : AreGoodBefore m n marks q
 
 -- the fault of the first mark that is not good; the kinds of faults are tried in this order
-abbrev pub IsFirstFault : ℕ → ℕ → List Mark → MarkFault → Type 0
-IsFirstFault m n marks (NoSpan q) = FollowsGood m n marks q × HasNoSpan m n (mark_at marks q)
-IsFirstFault m n marks (Repeated q) =
+abbrev pub IsFirstFaultOfMarks : ℕ → ℕ → List Mark → MarkFault → Type 0
+IsFirstFaultOfMarks m n marks (NoSpan q) = FollowsGood m n marks q × HasNoSpan m n (mark_at marks q)
+IsFirstFaultOfMarks m n marks (Repeated q) =
     FollowsGood m n marks q × (HasNoSpan m n (mark_at marks q) → ⊥) × IsRepeated marks q
-IsFirstFault m n marks (Cross q) =
-    FollowsGood m n marks q × (HasNoSpan m n (mark_at marks q) → ⊥) × (IsRepeated marks q → ⊥) × IsCrossed m n marks q
-IsFirstFault m n marks NoMemory = Unit {0}
+IsFirstFaultOfMarks m n marks (Cross q) =
+    FollowsGood m n marks q × (HasNoSpan m n (mark_at marks q) → ⊥) × (IsRepeated marks q → ⊥) × MarksCross m n marks q
+IsFirstFaultOfMarks m n marks NoMemory = Unit {0}

@@ -1,7 +1,7 @@
 //! The first fault of a list of marks.
 ghost use Rattle.std.specs.Prelude.{◌≡◌, ℕ, ◌<◌, ◌≤◌, IsTrue, ◌↔◌, ◌⊎◌, length, MatchResult, IfErr};
 ghost use Rattle.landmarks.specs.declared.marks.MarkFault.TheVariants as fault;
-ghost use Rattle.landmarks.specs.Faults.{mark_at, after, GoAcross, ShareLine, IsRepeated, IsCrossed, IsGood, AreGood, AreGoodBefore, IsFirstFault};
+ghost use Rattle.landmarks.specs.Faults.{mark_at, distance_after, GoAcross, ShareLine, IsRepeated, MarksCross, IsGood, AreSoundMarks, AreGoodBefore, IsFirstFaultOfMarks};
 
 use crate::marks::{Mark, MarkFault};
 use fku_types::limits::{MAX_COMPOSITE_VERTICES, MAX_MARKS};
@@ -11,7 +11,7 @@ fn after(count: u32, from: u32, to: u32) -> u32
     requires from { from < count }
     requires to { to < count }
     requires few { count ≤ MAX_COMPOSITE_VERTICES }
-    ensures { result ≡ after count from to }
+    ensures { result ≡ distance_after count from to }
 {
     if from <= to {
         to - from
@@ -62,7 +62,7 @@ fn is_crossed(rows: u32, cols: u32, marks: &[Mark], place: usize) -> bool
     requires cols { cols ≤ MAX_COMPOSITE_VERTICES }
     requires place { place < length marks.now }
     requires spans { (q : ℕ) → q ≤ place → ((mark_at marks.now q).row < rows) × ((mark_at marks.now q).col < cols) }
-    ensures { IsTrue result ↔ IsCrossed rows cols marks.now place }
+    ensures { IsTrue result ↔ MarksCross rows cols marks.now place }
 {
     for earlier in 0..place {
         if go_across(rows, cols, marks[0], marks[earlier], marks[place]) {
@@ -80,7 +80,7 @@ pub fn test_mark(rows: u32, cols: u32, marks: &[Mark], place: usize) -> Result<(
     requires few { length marks.now ≤ MAX_MARKS }
     requires place { place < length marks.now }
     requires earlier { AreGoodBefore rows cols marks.now place }
-    ensures fault { MatchResult result (λ _. IsGood rows cols marks.now place) (IsFirstFault rows cols marks.now) }
+    ensures fault { MatchResult result (λ _. IsGood rows cols marks.now place) (IsFirstFaultOfMarks rows cols marks.now) }
     // `NoMemory` never comes.
     ensures sure { IfErr result (λ f. f ≡ fault.NoMemory → ⊥) }
 {
@@ -104,7 +104,8 @@ pub(crate) fn test_marks(rows: u32, cols: u32, marks: &[Mark]) -> Result<(), Mar
     requires cols { cols ≤ MAX_COMPOSITE_VERTICES }
     requires some { 1 ≤ length marks.now }
     requires few { length marks.now ≤ MAX_MARKS }
-    ensures fault { MatchResult result (λ _. AreGood rows cols marks.now) (IsFirstFault rows cols marks.now) }
+    ensures fault { MatchResult result (λ _. AreSoundMarks rows cols marks.now)
+        (IsFirstFaultOfMarks rows cols marks.now) }
     ensures sure { IfErr result (λ f. f ≡ fault.NoMemory → ⊥) }
 {
     for place in 0..marks.len() {

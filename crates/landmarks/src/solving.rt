@@ -9,10 +9,10 @@ ghost use Rattle.landmarks.specs.declared.pieces.Marked.{Marked};
 ghost use Rattle.landmarks.specs.declared.marks.MarkFault.TheVariants.{Cross};
 ghost use Rattle.landmarks.specs.declared.marks.MarkFault.TheVariants as faults;
 ghost use Rattle.landmarks.specs.Marks.{IsMarked, HaveNoTiling};
-ghost use Rattle.landmarks.specs.Faults.{AreApart, AreGood, IsFirstFault};
+ghost use Rattle.landmarks.specs.Faults.{AreMarksApart, AreSoundMarks, IsFirstFaultOfMarks};
 ghost use Rattle.landmarks.specs.Pieces.{IsLeastPiece};
-ghost use Rattle.landmarks.specs.Marked.{Holds, SolvesMarked, SaySame};
-ghost use Rattle.landmarks.specs.Chains.{IsByRow, AreInOrder, IsWay, ArePieces, AreFirst};
+ghost use Rattle.landmarks.specs.Marked.{HoldsMarked, SolvesMarked, SaySame};
+ghost use Rattle.landmarks.specs.Chains.{IsByRow, AreSpansInOrder, IsDistanceRound, ArePieces, AreOfCanonicalWords};
 
 use crate::faults::test_marks;
 use crate::marks::{Mark, MarkFault};
@@ -29,7 +29,7 @@ fn way(count: u32, from: u32, to: u32) -> u32
     requires from { from < count }
     requires to { to < count }
     requires few { count ≤ MAX_COMPOSITE_VERTICES }
-    ensures way { IsWay count from to result }
+    ensures way { IsDistanceRound count from to result }
     ensures fits { result ≤ count }
 {
     if from < to {
@@ -41,7 +41,7 @@ fn way(count: u32, from: u32, to: u32) -> u32
 
 // The marks in the order of their rows; or `NoMemory`.
 fn by_row(alloc: Global, marks: &[Mark]) -> Result<Vec<Mark>, NoMemory>
-    requires { AreApart marks.now }
+    requires { AreMarksApart marks.now }
     ensures { IfOk result (λ sorted. IsByRow marks.now sorted.items) }
 {
     let mut sorted = marks.to_vec(alloc)?;
@@ -54,8 +54,8 @@ fn piece_between(alloc: Global, pair: &Pair, from: Mark, to: Mark) -> Result<Pie
     requires from { from.row < rows pair.now × from.col < cols pair.now }
     requires to { to.row < rows pair.now × to.col < cols pair.now }
     ensures from { IfOk result (λ p. p.from ≡ from) }
-    ensures rows { IfOk result (λ p. IsWay (rows pair.now) from.row to.row p.rows) }
-    ensures cols { IfOk result (λ p. IsWay (cols pair.now) from.col to.col p.cols) }
+    ensures rows { IfOk result (λ p. IsDistanceRound (rows pair.now) from.row to.row p.rows) }
+    ensures cols { IfOk result (λ p. IsDistanceRound (cols pair.now) from.col to.col p.cols) }
     ensures rows_fit { IfOk result (λ p. p.rows ≤ rows pair.now) }
     ensures cols_fit { IfOk result (λ p. p.cols ≤ cols pair.now) }
     ensures least { IfOk result (IsLeastPiece (arcs pair.now)) }
@@ -75,7 +75,7 @@ fn piece_between(alloc: Global, pair: &Pair, from: Mark, to: Mark) -> Result<Pie
 
 // The pieces between marks in the order of their rows.
 fn pieces_between(alloc: Global, pair: &Pair, sorted: &[Mark]) -> Result<Vec<Piece>, NoMemory>
-    requires { AreInOrder (rows pair.now) (cols pair.now) sorted.now }
+    requires { AreSpansInOrder (rows pair.now) (cols pair.now) sorted.now }
     ensures { IfOk result (λ pieces.
         ArePieces (arcs pair.now) (rows pair.now) (cols pair.now) sorted.now (length sorted.now) pieces.items) }
 {
@@ -95,7 +95,7 @@ fn word_of(alloc: Global, pair: &Pair, pieces: &[Piece]) -> Result<Vec<Step>, No
         pieces.now }
     requires rows { All (λ p. p.rows ≤ MAX_COMPOSITE_VERTICES) pieces.now }
     requires cols { All (λ p. p.cols ≤ MAX_COMPOSITE_VERTICES) pieces.now }
-    ensures { IfOk result (λ w. AreFirst (arcs pair.now) pieces.now w.items) }
+    ensures { IfOk result (λ w. AreOfCanonicalWords (arcs pair.now) pieces.now w.items) }
 {
     let capacity = pair.low().points.len() + pair.high().points.len();
     let mut word = Vec::with_capacity(alloc, capacity)?;
@@ -122,7 +122,7 @@ fn cost_of(pieces: &[Piece]) -> i128
 
 // Solves a pair with good marks.
 fn solve_good(alloc: Global, pair: &Pair, marks: &[Mark]) -> Result<Marked, NoMemory>
-    requires { AreGood (rows pair.now) (cols pair.now) marks.now }
+    requires { AreSoundMarks (rows pair.now) (cols pair.now) marks.now }
     ensures { IfOk result (SolvesMarked pair.now marks.now) }
 {
     let _low = pair.low();
@@ -147,10 +147,10 @@ fn solve_good(alloc: Global, pair: &Pair, marks: &[Mark]) -> Result<Marked, NoMe
 pub fn solve_marked(alloc: Global, pair: &Pair, marks: &[Mark]) -> Result<Marked, MarkFault>
     requires some { 1 ≤ length marks.now }
     requires few { length marks.now ≤ MAX_MARKS }
-    ensures good { IfOk result (λ t. AreGood (rows pair.now) (cols pair.now) marks.now) }
-    ensures fault { IfErr result (IsFirstFault (rows pair.now) (cols pair.now) marks.now) }
+    ensures good { IfOk result (λ t. AreSoundMarks (rows pair.now) (cols pair.now) marks.now) }
+    ensures fault { IfErr result (IsFirstFaultOfMarks (rows pair.now) (cols pair.now) marks.now) }
     // Memory is asked for good marks alone, so a mark with a fault is reported whatever memory there is.
-    ensures memory { IfErr result (λ f. f ≡ faults.NoMemory → AreGood (rows pair.now) (cols pair.now) marks.now) }
+    ensures memory { IfErr result (λ f. f ≡ faults.NoMemory → AreSoundMarks (rows pair.now) (cols pair.now) marks.now) }
     ensures crossed { IfErr result (λ f.
         (q : ℕ) → f ≡ Cross q → HaveNoTiling (rows pair.now) (cols pair.now) (take (q + 1) marks.now)) }
     ensures solves { IfOk result (SolvesMarked pair.now marks.now) }
@@ -162,7 +162,7 @@ pub fn solve_marked(alloc: Global, pair: &Pair, marks: &[Mark]) -> Result<Marked
     ensures least { IfOk result (λ t.
         (i j : ℕ) (w : List Step) → IsMarked (rows pair.now) (cols pair.now) marks.now i j w
         → t.cost ≤ℤ pos (word_cost (arcs pair.now) i j w)) }
-    ensures holds { IfOk result (Holds pair.now marks.now) }
+    ensures holds { IfOk result (HoldsMarked pair.now marks.now) }
 {
     let rows = pair.low().points.len() as u32;
     let cols = pair.high().points.len() as u32;

@@ -2,7 +2,7 @@
 use Rattle.std.proofs.Common.{◌≡◌, ◌&&◌, ◌||◌, false, sym, ap, ap₂, ◌∙◌, ℤ, ◌+ℤ◌, ◌-ℤ◌, ◌*ℤ◌, ◌≤ℤ◌, arith}
 use Rattle.std.proofs.lemmas.Int.{ints}
 use Rattle.fku_types.specs.declared.points.Point.{Point}
-use Rattle.plane_geom.specs.Planes.{cross as product}
+use Rattle.plane_geom.specs.Planes.{cross_product as product}
 use Rattle.mesh_measures.specs.declared.crossing.Corners.{Corners}
 use Rattle.triangle_meshes.specs.Volumes.{seen_from, determinant}
 use Rattle.mesh_measures.specs.Turns.{turn}

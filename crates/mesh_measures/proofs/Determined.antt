@@ -2,14 +2,14 @@
 use Rattle.std.proofs.Common.{◌≡◌, ℤ, neg_ℤ, ◌+ℤ◌, ◌-ℤ◌, ◌*ℤ◌, sym, ap, ap₂, ◌∙◌, arith}
 use Rattle.std.proofs.lemmas.Int.{ints}
 use Rattle.fku_types.specs.declared.points.Point.{Point}
-use Rattle.plane_geom.specs.Planes.{cross}
+use Rattle.plane_geom.specs.Planes.{cross_product}
 use Rattle.plane_geom.proofs.Vectors.{add-mul, sub-mul, mul-sub, mul-comm, neg-mul, ends}
 use Rattle.triangle_meshes.specs.Volumes.{determinant}
 use Rattle.triangle_meshes.proofs.Determinants.{three_turned}
 
 -- the cross product of two vectors, ignoring x
 abbrev pub plane : Point → Point → ℤ
-plane p q = cross p.y p.z q.y q.z
+plane p q = cross_product p.y p.z q.y q.z
 
 -- a determinant, from the x of its points
 pub by_x : (a b c : Point) → determinant a b c ≡ (a.x *ℤ plane b c) +ℤ (b.x *ℤ plane c a) +ℤ (c.x *ℤ plane a b)

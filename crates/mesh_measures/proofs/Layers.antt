@@ -7,7 +7,7 @@ use Rattle.std.proofs.lemmas.List.{get_or-take, get_or-drop, length-take-le, len
 use Rattle.std.proofs.lemmas.List.Elements.{All-take, All-drop}
 use Rattle.std.proofs.lemmas.List.Sums.{sum_by-take-drop, sum_by_more_le}
 use Rattle.mesh_measures.specs.declared.triangle_boxes.Boxed.{Boxed}
-use Rattle.mesh_measures.specs.TriangleBoxes.{IsBoxed, IsBehind, IsSwept, crosses, crosses_at, x_of, z_of, RisesBy, LiesPast}
+use Rattle.mesh_measures.specs.TriangleBoxes.{IsBoxed, ComesAfter, IsSwept, crosses, crosses_at, x_of, z_of, RisesBy, LiesPast}
 use Rattle.mesh_measures.proofs.Apart.{before_x, before_z}
 use Rattle.mesh_measures.proofs.Tallies.{count-cons}
 
@@ -37,7 +37,7 @@ parted_lt f xs m up = λ i j d le below e. less_before (f (get_or xs i d)) (f (g
 same_height : (a b c m : ℤ) → m ≤ℤ a → a ≤ℤ m → m ≤ℤ b → b ≤ℤ m → a ≡ b
 same_height a b c m h k l n = omega (arith, ints)
 
-pub level_rises : (e : Boxed) (xs : List Boxed) (n : ℕ) → All (IsBehind e) xs → IsSwept xs → n ≤ length xs → ((k : ℕ) (d : Boxed) → k < n → (get_or xs k d).least.z ≤ℤ e.least.z) → RisesBy x_of (take n xs)
+pub level_rises : (e : Boxed) (xs : List Boxed) (n : ℕ) → All (ComesAfter e) xs → IsSwept xs → n ≤ length xs → ((k : ℕ) (d : Boxed) → k < n → (get_or xs k d).least.z ≤ℤ e.least.z) → RisesBy x_of (take n xs)
 level_rises e xs n behind swept le level = λ i j d below there.
     let there' : j < n = omega (arith, length-take-le n xs le) in
     let here' : i < n = omega arith in

@@ -4,7 +4,7 @@ use Rattle.std.proofs.Common.{◌≡◌, ◌↔◌, inl, inr, ℕ, ◌+◌, ◌<
 use Rattle.std.proofs.lemmas.Int.{ints, by_lt_z}
 use Rattle.std.proofs.lemmas.Bool.{and_from, or_cases, or_left, or_right}
 use Rattle.fku_types.specs.declared.points.Point.{Point}
-use Rattle.plane_geom.specs.Planes.{cross as product}
+use Rattle.plane_geom.specs.Planes.{cross_product as product}
 use Rattle.plane_geom.proofs.Vectors.{add-mul, mul-add, mul-sub, mul-assoc, le-mul, cancel-le}
 use Rattle.mesh_measures.specs.declared.crossing.Corners.{Corners}
 use Rattle.triangle_meshes.specs.Volumes.{seen_from, determinant}

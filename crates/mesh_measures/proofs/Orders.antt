@@ -7,7 +7,7 @@ use Rattle.std.proofs.lemmas.Cmp.{int_ranked, int_cmp_total, on_total, then_tota
 use Rattle.std.proofs.lemmas.List.Sorted.{ranks_by, sorted_far}
 use Rattle.std.specs.List.Sorted.{IsSortedByKey}
 use Rattle.mesh_measures.specs.declared.triangle_boxes.Boxed.{Boxed}
-use Rattle.mesh_measures.specs.TriangleBoxes.{IsBehind, IsSwept}
+use Rattle.mesh_measures.specs.TriangleBoxes.{ComesAfter, IsSwept}
 
 abbrev pub key : Boxed → ℤ × ℤ
 key b = (b.least.z, b.least.x)
@@ -31,7 +31,7 @@ ordered z x z' x' Equal Equal h k e = (same_le z z' h, λ _. same_le x x' k)
 ordered z x z' x' Equal Greater h k e = (same_le z z' h, λ _. less_le x x' k)
 ordered z x z' x' Greater q h k e = (less_le z z' h, λ f. absurd (not_same z z' h f))
 
-pub behind : (a b : Boxed) → is_lt (by_key (key b) (key a)) ≡ false → IsBehind a b
+pub behind : (a b : Boxed) → is_lt (by_key (key b) (key a)) ≡ false → ComesAfter a b
 behind a b e =
     let w = ordered a.least.z a.least.x b.least.z b.least.x (int_cmp b.least.z a.least.z) (int_cmp b.least.x a.least.x) (int_ranked b.least.z a.least.z (int_cmp b.least.z a.least.z) refl) (int_ranked b.least.x a.least.x (int_cmp b.least.x a.least.x) refl) e in
     record { height = w.0; level = w.1 }

@@ -13,7 +13,7 @@ use Rattle.plane_geom.specs.Rings.{origin}
 use Rattle.mesh_measures.specs.declared.crossing.Corners.{Corners}
 use Rattle.mesh_measures.specs.declared.triangle_boxes.Boxed.{Boxed}
 use Rattle.mesh_measures.specs.Crossings.{cross, crossing_counts, crossing_pairs}
-use Rattle.mesh_measures.specs.TriangleBoxes.{tally, corners, places}
+use Rattle.mesh_measures.specs.TriangleBoxes.{tally, boxed_corners, places}
 use Rattle.mesh_measures.proofs.Tallies.{count-cons, either, HasCorners, has_place, tally_is, count-moved, pairs_moved}
 
 abbrev pub nothing : Corners
@@ -24,7 +24,7 @@ blank = record { place = 0; corners = nothing; least = origin; greatest = origin
 
 -- boxes of the triangles of a part in its order, and the same in another order
 pub record Made (part : List Corners) (made sorted : List Boxed) : Type 0 where
-  pub corners : corners made ≡ part
+  pub corners : boxed_corners made ≡ part
   pub places : places made ≡ range_with_len 0 (length part)
   pub moved : IsPermutation made sorted
 
@@ -124,8 +124,8 @@ counts_are part made sorted m counts same is =
     let there : i < length part = omega arith in
     is i ∙ tally_at part made sorted m i there ∙ sym (get_or-map row part i nothing 0 there))
 
-pub pairs_are : (part : List Corners) (made sorted : List Boxed) → Made part made sorted → crossing_pairs (corners sorted) ≡ crossing_pairs part
-pairs_are part made sorted m = pairs_moved (corners made) (corners sorted) (IsPermutation-map (λ (b : Boxed). b.corners) made sorted m.moved) ∙ ap crossing_pairs m.corners
+pub pairs_are : (part : List Corners) (made sorted : List Boxed) → Made part made sorted → crossing_pairs (boxed_corners sorted) ≡ crossing_pairs part
+pairs_are part made sorted m = pairs_moved (boxed_corners made) (boxed_corners sorted) (IsPermutation-map (λ (b : Boxed). b.corners) made sorted m.moved) ∙ ap crossing_pairs m.corners
 
 pub both_ok : {T E : Type 0} (r : Result T E) (P Q R : T → Type 0) → IfOk r P → IfOk r Q → ((x : T) → P x → Q x → R x) → IfOk r R
 both_ok (Ok x) P Q R p q f = f x p q

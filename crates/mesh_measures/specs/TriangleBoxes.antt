@@ -13,7 +13,7 @@ pub record IsUnder (p q : Point) : Type 0 where
   pub z : p.z ≤ℤ q.z
 
 -- a point lies in the box between two points
-pub record IsBetween (least greatest p : Point) : Type 0 where
+pub record IsInBox (least greatest p : Point) : Type 0 where
   pub over : IsUnder least p
   pub under : IsUnder p greatest
 
@@ -22,9 +22,9 @@ pub record IsBoxed (x : Boxed) : Type 0 where
   pub in_range : AreInRange x.corners
   pub least : IsInRange x.least
   pub greatest : IsInRange x.greatest
-  pub a : IsBetween x.least x.greatest x.corners.a
-  pub b : IsBetween x.least x.greatest x.corners.b
-  pub c : IsBetween x.least x.greatest x.corners.c
+  pub a : IsInBox x.least x.greatest x.corners.a
+  pub b : IsInBox x.least x.greatest x.corners.b
+  pub c : IsInBox x.least x.greatest x.corners.c
 
 -- two open ranges overlap, if neither is empty
 abbrev pub overlap : ℤ → ℤ → ℤ → ℤ → Bool
@@ -41,13 +41,13 @@ abbrev pub crosses : Boxed → Boxed → Bool
 crosses e f = cross e.corners f.corners
 
 -- the second begins no lower than the first and, if both begin at one height, at no smaller x
-pub record IsBehind (e f : Boxed) : Type 0 where
+pub record ComesAfter (e f : Boxed) : Type 0 where
   pub height : e.least.z ≤ℤ f.least.z
   pub level : e.least.z ≡ f.least.z → e.least.x ≤ℤ f.least.x
 
 -- each one comes after those before it in this order
 abbrev pub IsSwept : List Boxed → Type 0
-IsSwept xs = (i j : ℕ) (d : Boxed) → i ≤ j → j < length xs → IsBehind (slice_index_or xs i d) (slice_index_or xs j d)
+IsSwept xs = (i j : ℕ) (d : Boxed) → i ≤ j → j < length xs → ComesAfter (slice_index_or xs i d) (slice_index_or xs j d)
 
 -- where a triangle's box begins, in x and in z
 abbrev pub x_of : Boxed → ℤ
@@ -78,8 +78,8 @@ tally [] i = 0
 tally (e ∷ behind) i = share e behind i + tally behind i
 
 -- the corners of each
-abbrev pub corners : List Boxed → List Corners
-corners xs = map (λ b. b.corners) xs
+abbrev pub boxed_corners : List Boxed → List Corners
+boxed_corners xs = map (λ b. b.corners) xs
 
 -- the place of each
 abbrev pub places : List Boxed → List ℕ

@@ -1,6 +1,6 @@
 //! Crossings of one triangle with later ones.
 ghost use Rattle.std.specs.Prelude.{◌≡◌, ℕ, ◌+◌, ◌<◌, ◌≤◌, ◌^◌, ◌∷◌, [], length, All, count_by, slice_index, slice_index_or, ◌≤ℤ◌, ◌<ℤ◌};
-ghost use Rattle.mesh_measures.specs.TriangleBoxes.{IsBoxed, IsBehind, IsSwept, crosses, crosses_at, LiesPast, RisesBy, x_of, z_of};
+ghost use Rattle.mesh_measures.specs.TriangleBoxes.{IsBoxed, ComesAfter, IsSwept, crosses, crosses_at, LiesPast, RisesBy, x_of, z_of};
 
 use crate::triangle_boxes::{Boxed, crosses};
 
@@ -12,7 +12,8 @@ fn count_one(first: &Boxed, other: &Boxed, counts: &mut [u32]) -> u32
     requires place { other.now.place < length counts.old }
     requires room { (i : ℕ) → slice_index counts.old i + count_by (crosses_at first.now i) (other.now ∷ []) < 2 ^ 32 }
     ensures own { result ≡ count_by (crosses first.now) (other.now ∷ []) }
-    ensures counts { (i : ℕ) → slice_index counts.new i ≡ slice_index counts.old i + count_by (crosses_at first.now i) (other.now ∷ []) }
+    ensures counts { (i : ℕ) → slice_index counts.new i ≡ slice_index counts.old i
+        + count_by (crosses_at first.now i) (other.now ∷ []) }
 {
     if crosses(first, other) {
         counts[other.place as usize] += 1;
@@ -30,7 +31,8 @@ fn count_crossed(first: &Boxed, others: &[Boxed], counts: &mut [u32]) -> u32
     requires few { length others.now < 2 ^ 32 }
     requires room { (i : ℕ) → slice_index counts.old i + count_by (crosses_at first.now i) others.now < 2 ^ 32 }
     ensures own { result ≡ count_by (crosses first.now) others.now }
-    ensures counts { (i : ℕ) → slice_index counts.new i ≡ slice_index counts.old i + count_by (crosses_at first.now i) others.now }
+    ensures counts { (i : ℕ) → slice_index counts.new i ≡ slice_index counts.old i
+        + count_by (crosses_at first.now i) others.now }
 {
     let mut own = 0;
     for other in others {
@@ -70,13 +72,14 @@ fn near_end(level: &[Boxed], x: i32) -> usize
 pub fn count_behind(first: &Boxed, behind: &[Boxed], counts: &mut [u32]) -> u32
     requires first { IsBoxed first.now }
     requires boxed { All IsBoxed behind.now }
-    requires behind { All (IsBehind first.now) behind.now }
+    requires behind { All (ComesAfter first.now) behind.now }
     requires swept { IsSwept behind.now }
     requires places { All (λ f. f.place < length counts.old) behind.now }
     requires few { length behind.now < 2 ^ 32 }
     requires room { (i : ℕ) → slice_index counts.old i + count_by (crosses_at first.now i) behind.now < 2 ^ 32 }
     ensures own { result ≡ count_by (crosses first.now) behind.now }
-    ensures counts { (i : ℕ) → slice_index counts.new i ≡ slice_index counts.old i + count_by (crosses_at first.now i) behind.now }
+    ensures counts { (i : ℕ) → slice_index counts.new i ≡ slice_index counts.old i
+        + count_by (crosses_at first.now i) behind.now }
 {
     // Triangles of one height are ordered by x. Where layers lie one above another, none of those that begin higher is
     // near.

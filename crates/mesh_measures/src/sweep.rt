@@ -4,7 +4,7 @@ ghost use Rattle.std.specs.List.{range_with_len};
 ghost use Rattle.std.specs.List.Sorted.{IsPermutation};
 ghost use Rattle.fku_types.specs.Points.{IsInRange};
 ghost use Rattle.mesh_measures.specs.Crossings.{AreInRange, corners_of, part_corners, crossing_counts, crossing_pairs};
-ghost use Rattle.mesh_measures.specs.TriangleBoxes.{IsBoxed, IsSwept, corners, places, tally};
+ghost use Rattle.mesh_measures.specs.TriangleBoxes.{IsBoxed, IsSwept, boxed_corners, places, tally};
 
 use crate::counting::count_behind;
 use crate::crossing::Corners;
@@ -42,7 +42,7 @@ fn boxes(alloc: Global, vertices: &[Point], triangles: &[[u32; 3]]) -> Result<Ve
     requires vertices { All IsInRange vertices.now }
     requires known { All (All (λ id. id < length vertices.now)) triangles.now }
     requires few { length triangles.now < 2 ^ 32 }
-    ensures corners { IfOk result (λ v. corners v.items ≡ part_corners vertices.now triangles.now) }
+    ensures corners { IfOk result (λ v. boxed_corners v.items ≡ part_corners vertices.now triangles.now) }
     ensures places { IfOk result (λ v. places v.items ≡ range_with_len 0 (length triangles.now)) }
     ensures boxed { IfOk result (λ v. All IsBoxed v.items) }
 {
@@ -73,8 +73,10 @@ fn count_from(sorted: &[Boxed], place: usize, counts: &mut [u32]) -> u32
     requires places { All (λ f. f.place < length counts.old) sorted.now }
     requires few { length sorted.now < 2 ^ 32 }
     requires room { (i : ℕ) → slice_index counts.old i + tally (drop place sorted.now) i < 2 ^ 32 }
-    ensures own { result + crossing_pairs (corners (drop (place + 1) sorted.now)) ≡ crossing_pairs (corners (drop place sorted.now)) }
-    ensures counts { (i : ℕ) → slice_index counts.new i + tally (drop (place + 1) sorted.now) i ≡ slice_index counts.old i + tally (drop place sorted.now) i }
+    ensures own { result + crossing_pairs (boxed_corners (drop (place + 1) sorted.now))
+        ≡ crossing_pairs (boxed_corners (drop place sorted.now)) }
+    ensures counts { (i : ℕ) → slice_index counts.new i + tally (drop (place + 1) sorted.now) i
+        ≡ slice_index counts.old i + tally (drop place sorted.now) i }
 {
     let first = &sorted[place];
     let own = count_behind(first, &sorted[place + 1..], counts);
@@ -89,7 +91,7 @@ fn count_all(sorted: &[Boxed], counts: &mut [u32]) -> u64
     requires places { All (λ f. f.place < length counts.old) sorted.now }
     requires few { length sorted.now < 2 ^ 32 }
     requires room { (i : ℕ) → slice_index counts.old i + tally sorted.now i < 2 ^ 32 }
-    ensures pairs { result ≡ crossing_pairs (corners sorted.now) }
+    ensures pairs { result ≡ crossing_pairs (boxed_corners sorted.now) }
     ensures counts { (i : ℕ) → slice_index counts.new i ≡ slice_index counts.old i + tally sorted.now i }
 {
     let mut pairs = 0;
@@ -108,7 +110,7 @@ fn counted(alloc: Global, sorted: &[Boxed]) -> Result<CrossingCounts, NoMemory>
     requires room { (i : ℕ) → tally sorted.now i < 2 ^ 32 }
     ensures length { IfOk result (λ r. length r.counts.items ≡ length sorted.now) }
     ensures counts { IfOk result (λ r. (i : ℕ) → slice_index r.counts.items i ≡ tally sorted.now i) }
-    ensures pairs { IfOk result (λ r. r.pairs ≡ crossing_pairs (corners sorted.now)) }
+    ensures pairs { IfOk result (λ r. r.pairs ≡ crossing_pairs (boxed_corners sorted.now)) }
 {
     let mut counts = vec![in alloc; 0u32; sorted.len()]?;
     let pairs = count_all(sorted, &mut counts);

@@ -10,16 +10,16 @@ use Rattle.row_paths.specs.Solutions.{Solution, Solves}
 use Rattle.pair_pool.specs.Solvers.{SolvesEach}
 use Rattle.strip_potential.specs.Rows.{HasRows}
 use Rattle.cert_checker.specs.declared.certs.CertText.{CertText}
-use Rattle.cert_checker.specs.CertTexts.{CertParts, IsLawful, cert_text, parts_of}
-use Rattle.cert_checker.specs.CertReading.{ReadsAs, kept_behind}
+use Rattle.cert_checker.specs.CertTexts.{CertParts, IsLawfulCertificate, cert_text, certificate_parts}
+use Rattle.cert_checker.specs.CertReading.{ReadsAsCertificate, kept_behind}
 use Rattle.cert_checker.specs.Verdicts.{Holds}
 use Rattle.command_replies.specs.Reply.{told}
 use Rattle.pair_commands.specs.Certify.{TellsCert, certificate}
 
 -- the printed text of a certificate is the reply
-pub tells_cert : {E : Type 0} (k : ℕ) (p : Strip) (s : Solution) (t : CertText) (r : Result (Vec ℕ Global) E) → Solves p s → parts_of t ≡ certificate k p s t.cert.pi.items
-    → HasRows p (2 * rows p) t.cert.pi.items → Holds p t.cert → IfOk r (λ v. v.items ≡ cert_text (parts_of t))
-    → IfOk r (λ v. (passed : ℕ) → ReadsAs (kept_behind passed v.items) (parts_of t)) → IfOk r (λ v. (x : Solution) × Solves p x × TellsCert k p x (told v.items 1))
+pub tells_cert : {E : Type 0} (k : ℕ) (p : Strip) (s : Solution) (t : CertText) (r : Result (Vec ℕ Global) E) → Solves p s → certificate_parts t ≡ certificate k p s t.cert.pi.items
+    → HasRows p (2 * rows p) t.cert.pi.items → Holds p t.cert → IfOk r (λ v. v.items ≡ cert_text (certificate_parts t))
+    → IfOk r (λ v. (passed : ℕ) → ReadsAsCertificate (kept_behind passed v.items) (certificate_parts t)) → IfOk r (λ v. (x : Solution) × Solves p x × TellsCert k p x (told v.items 1))
 tells_cert k p s t (Err e) solves is rows_are holds canonical law = tt
 tells_cert k p s t (Ok v) solves is rows_are holds canonical law =
     let text : v.items ≡ cert_text (certificate k p s t.cert.pi.items) = canonical ∙ ap cert_text is in (
@@ -29,7 +29,7 @@ tells_cert k p s t (Ok v) solves is rows_are holds canonical law =
         values = t.cert.pi.items;
         potential = rows_are;
         holds = subst (λ (C : CertParts). Certifies (arcs p) (rows p) (cols p) C.head.rows C.head.cols C.head.cost C.head.start C.word C.values) is holds;
-        reads = λ passed. subst (λ (b : List ℕ). ReadsAs (kept_behind passed b) (certificate k p s t.cert.pi.items)) text (subst (ReadsAs (kept_behind passed v.items)) is (law passed));
+        reads = λ passed. subst (λ (b : List ℕ). ReadsAsCertificate (kept_behind passed b) (certificate k p s t.cert.pi.items)) text (subst (ReadsAsCertificate (kept_behind passed v.items)) is (law passed));
         tells = ap (λ (b : List ℕ). told b 1) text;
       },
     )
@@ -45,7 +45,7 @@ only_solution p ps xs n o s one solved count last is =
     subst (Solves p) (sym same) (each.each 0 p s (omega arith))
 
 pub lawful_certificate : (k : ℕ) (p : Strip) (s : Solution) (values : List ℤ) → 1 ≤ k → k ≤ MAX_PAIRS → IsStrip p
-    → Certifies (arcs p) (rows p) (cols p) (rows p) (cols p) s.cost s.row s.word values → IsLawful (certificate k p s values)
+    → Certifies (arcs p) (rows p) (cols p) (rows p) (cols p) s.cost s.row s.word values → IsLawfulCertificate (certificate k p s values)
 lawful_certificate k p s values some few strip holds =
     let letters = holds.acceptable.letters in
     let long : length s.word ≡ rows p + cols p = omega (arith, length-letters s.word, letters.v, letters.h) in

@@ -10,7 +10,7 @@ use Rattle.section_pairs.specs.SectionFaults.{OrNoMemory}
 use Rattle.text_io.proofs.TextLemmas.{lines_first}
 use Rattle.section_text.specs.Fronts.{IsUsed, after_lines}
 use Rattle.cert_checker.specs.CertTexts.{CertParts}
-use Rattle.cert_checker.specs.CertReading.{ReadsAs, kept_behind, last_line, IsCertFault, IsFaultOf}
+use Rattle.cert_checker.specs.CertReading.{ReadsAsCertificate, kept_behind, last_line, IsCertFault, IsCertificateFault}
 
 one_less : (text : List ℕ) → length (lines (after_line text)) ≡ length (lines text) - 1
 one_less [] = refl
@@ -50,17 +50,17 @@ all_lines text used n u =
     omega (arith, within, fewer n text, ap (λ (t : List ℕ). length (lines t)) u.behind)
 
 -- what a certificate after END reads as, or its fault, with the line numbers of the whole text
-pub cert_read : (bytes : List ℕ) (used n : ℕ) (C : CertParts) → ReadsAs (kept_behind n (take (length bytes - used) (drop used bytes))) C → ReadsAs (kept_from (n + 1) (lines (drop used bytes))) C
-cert_read bytes used n C h = subst (λ (b : List ℕ). ReadsAs (kept_behind n b) C) (take_rest bytes used) h
+pub cert_read : (bytes : List ℕ) (used n : ℕ) (C : CertParts) → ReadsAsCertificate (kept_behind n (take (length bytes - used) (drop used bytes))) C → ReadsAsCertificate (kept_from (n + 1) (lines (drop used bytes))) C
+cert_read bytes used n C h = subst (λ (b : List ℕ). ReadsAsCertificate (kept_behind n b) C) (take_rest bytes used) h
 
 pub cert_fault : (bytes : List ℕ) (used n : ℕ) (f : Fault) → IsUsed bytes used n
-    → IsFaultOf (kept_behind n (take (length bytes - used) (drop used bytes))) (last_line n (take (length bytes - used) (drop used bytes))) f
-    → IsFaultOf (kept_from (n + 1) (lines (drop used bytes))) (length (lines bytes)) f
+    → IsCertificateFault (kept_behind n (take (length bytes - used) (drop used bytes))) (last_line n (take (length bytes - used) (drop used bytes))) f
+    → IsCertificateFault (kept_from (n + 1) (lines (drop used bytes))) (length (lines bytes)) f
 cert_fault bytes used n f u h =
-    subst (λ (l : ℕ). IsFaultOf (kept_behind n (drop used bytes)) l f) (all_lines bytes used n u)
-    (subst (λ (b : List ℕ). IsFaultOf (kept_behind n b) (last_line n b) f) (take_rest bytes used) h)
+    subst (λ (l : ℕ). IsCertificateFault (kept_behind n (drop used bytes)) l f) (all_lines bytes used n u)
+    (subst (λ (b : List ℕ). IsCertificateFault (kept_behind n b) (last_line n b) f) (take_rest bytes used) h)
 
 -- the fault is told as it is, or memory ran out
-pub cert_told : (tail : List Kept) (last : ℕ) (f : Fault) → IsFaultOf tail last f → OrNoMemory (IsCertFault tail last) f
+pub cert_told : (tail : List Kept) (last : ℕ) (f : Fault) → IsCertificateFault tail last f → OrNoMemory (IsCertFault tail last) f
 cert_told tail last (CertForm n) h = inr (n, h, refl)
 cert_told tail last f h = inl h

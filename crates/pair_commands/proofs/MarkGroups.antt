@@ -12,7 +12,7 @@ use Rattle.fku_types.specs.declared.fault.Fault.TheVariants.{NoPair}
 use Rattle.fku_types.proofs.ListLaws.{take_next, split_at}
 use Rattle.strip_graph.specs.Strips.{rows, cols}
 use Rattle.landmarks.specs.declared.marks.Mark.{Mark}
-use Rattle.landmarks.specs.Faults.{AreGood, AreGoodBefore, IsFirstFault}
+use Rattle.landmarks.specs.Faults.{AreSoundMarks, AreGoodBefore, IsFirstFaultOfMarks}
 use Rattle.section_pairs.specs.Pairs.{PairParts, pair_parts}
 use Rattle.section_pairs.specs.declared.gap_pairs.GapPair.{GapPair}
 use Rattle.pair_commands.specs.declared.mark_lines.PairMark.{PairMark}
@@ -89,8 +89,8 @@ grouped_more ps xs i x place p old new a good =
     let grown = take_next xs i x a.inside a.is in
     let here = group_is ps xs i x place p old new a in
     let few = group_few ps xs i x place p old new a in
-    let set_good : AreGood (rows p.strip) (cols p.strip) (get_or new place []) = record { some = (last_ready ps xs i x place p old new a).0; few = few; good = good } in
-    let is_good : IsGoodMark ps front x = record { pair = p; is_pair = is_pair ps xs i x place p old new a; good = subst (AreGood (rows p.strip) (cols p.strip)) here set_good } in
+    let set_good : AreSoundMarks (rows p.strip) (cols p.strip) (get_or new place []) = record { some = (last_ready ps xs i x place p old new a).0; few = few; good = good } in
+    let is_good : IsGoodMark ps front x = record { pair = p; is_pair = is_pair ps xs i x place p old new a; good = subst (AreSoundMarks (rows p.strip) (cols p.strip)) here set_good } in
     record {
       are = groups_grow ps xs i x place p old new a ∙ ap (groups_from 1 ps) (sym grown);
       good = subst (AreGoodMarks ps) (sym grown) (good_more ps front x a.grouped.good is_good);
@@ -116,7 +116,7 @@ cause_here ps xs i x place p old new fault a c = record {
   after = drop (i + 1) xs;
   split = split_at xs i x a.inside a.is;
   good_before = a.grouped.good;
-  has = of_pair p c.cause fault (is_pair ps xs i x place p old new a) (subst (λ (ms : List Mark). IsFirstFault (rows p.strip) (cols p.strip) ms c.cause) (group_is ps xs i x place p old new a) c.first) c.told;
+  has = of_pair p c.cause fault (is_pair ps xs i x place p old new a) (subst (λ (ms : List Mark). IsFirstFaultOfMarks (rows p.strip) (cols p.strip) ms c.cause) (group_is ps xs i x place p old new a) c.first) c.told;
 }
 
 -- there is no such pair

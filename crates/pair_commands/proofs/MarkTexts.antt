@@ -6,7 +6,7 @@ use Rattle.fku_types.proofs.ListLaws.{take_next}
 use Rattle.strip_graph.specs.Strips.{Strip, rows, cols}
 use Rattle.landmarks.specs.declared.marks.Mark.{Mark}
 use Rattle.landmarks.specs.declared.pieces.Marked.{Marked}
-use Rattle.landmarks.specs.Faults.{AreGood}
+use Rattle.landmarks.specs.Faults.{AreSoundMarks}
 use Rattle.landmarks.specs.Marked.{SolvesMarked}
 use Rattle.section_pairs.specs.Pairs.{PairParts}
 use Rattle.pair_commands.specs.declared.mark_lines.PairMark.{PairMark}
@@ -21,7 +21,7 @@ pub no_lines : (k : ℕ) (s : Strip) (marks : List Mark) (old : List ℕ) → ma
 no_lines k s marks old e =
     subst (λ (ms : List Mark). IsPairText k s ms old old 0) (sym e) (record { solved = []; each = tt; put = sym (append-nil old); counted = refl; one = omega arith })
 
-pub some_lines : (k : ℕ) (s : Strip) (marks : List Mark) (old new : List ℕ) (t : Marked) → 0 < length marks → AreGood (rows s) (cols s) marks → SolvesMarked s marks t → new ≡ old ++ marked_of k (length marks) t → IsPairText k s marks old new 1
+pub some_lines : (k : ℕ) (s : Strip) (marks : List Mark) (old new : List ℕ) (t : Marked) → 0 < length marks → AreSoundMarks (rows s) (cols s) marks → SolvesMarked s marks t → new ≡ old ++ marked_of k (length marks) t → IsPairText k s marks old new 1
 some_lines k s [] old new t l g h e = absurd (omega (arith, l))
 some_lines k s (x ∷ xs) old new t l g h e = record {
   solved = t ∷ [];

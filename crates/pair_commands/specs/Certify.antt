@@ -6,7 +6,7 @@ use Rattle.strip_graph.specs.Certificates.{Certifies}
 use Rattle.row_paths.specs.Solutions.{Solution, Solves}
 use Rattle.strip_potential.specs.Rows.{HasRows}
 use Rattle.cert_checker.specs.CertTexts.{CertParts, cert_text}
-use Rattle.cert_checker.specs.CertReading.{ReadsAs, kept_behind}
+use Rattle.cert_checker.specs.CertReading.{ReadsAsCertificate, kept_behind}
 use Rattle.command_replies.specs.Reply.{Reply, Then, NoFault, Tells}
 use Rattle.command_replies.specs.Stages.{on_numbered}
 use Rattle.pair_commands.specs.OnePair.{on_pair}
@@ -27,7 +27,7 @@ pub record TellsCert (k : ℕ) (p : Strip) (s : Solution) (reply : Reply) : Type
   pub potential : HasRows p (2 * rows p) values
   pub holds : Certifies (arcs p) (rows p) (cols p) (rows p) (cols p) s.cost s.row s.word values
   pub reads : (passed : ℕ)
-      → ReadsAs (kept_behind passed (cert_text (certificate k p s values))) (certificate k p s values)
+      → ReadsAsCertificate (kept_behind passed (cert_text (certificate k p s values))) (certificate k p s values)
   pub tells : Tells (cert_text (certificate k p s values)) 1 reply
 
 -- the solution of a strip: its chosen tiling, which costs no more than any acceptable tiling from any start

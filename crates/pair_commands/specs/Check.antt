@@ -12,8 +12,8 @@ use Rattle.cert_checker.specs.declared.certs.Cert.{Cert}
 use Rattle.cert_checker.specs.declared.certs.CertText.{CertText}
 use Rattle.cert_checker.specs.declared.certs.Verdict.{Verdict}
 use Rattle.cert_checker.specs.declared.certs.Verdict.TheVariants.{Accept, Size, Word, Cost, Arc, Turn}
-use Rattle.cert_checker.specs.CertTexts.{letter, parts_of}
-use Rattle.cert_checker.specs.CertReading.{ReadsAs, IsCertFault}
+use Rattle.cert_checker.specs.CertTexts.{letter, certificate_parts}
+use Rattle.cert_checker.specs.CertReading.{ReadsAsCertificate, IsCertFault}
 use Rattle.cert_checker.specs.Verdicts.{IsVerdict}
 use Rattle.command_replies.specs.Reply.{Reply, Then, Tells}
 use Rattle.command_replies.specs.Stages.{on_front, on_numbered}
@@ -50,7 +50,7 @@ pub record TellsVerdict (p : Strip) (t : CertText) (reply : Reply) : Type 0 wher
 
 -- the certificate that kept lines read as, in an input of so many lines
 abbrev pub on_cert : ℕ → List Kept → (CertText → Reply → Type 0) → Reply → Type 0
-on_cert last tail rule = Then (IsCertFault tail last) (λ t. ReadsAs tail (parts_of t)) rule
+on_cert last tail rule = Then (IsCertFault tail last) (λ t. ReadsAsCertificate tail (certificate_parts t)) rule
 
 -- the reply for objects with a tail, in an input of so many lines: the verdict on the certificate of the pair that it
 -- names

@@ -13,7 +13,7 @@ use Rattle.landmarks.specs.declared.marks.Mark.{Mark}
 use Rattle.landmarks.specs.declared.marks.MarkFault.{MarkFault}
 use Rattle.landmarks.specs.declared.marks.MarkFault.TheVariants.{NoSpan, Repeated, Cross, NoMemory}
 use Rattle.landmarks.specs.declared.pieces.Marked.{Marked}
-use Rattle.landmarks.specs.Faults.{AreGood, IsFirstFault as IsFirstMarkFault}
+use Rattle.landmarks.specs.Faults.{AreSoundMarks, IsFirstFaultOfMarks as IsFirstMarkFault}
 use Rattle.landmarks.specs.Marked.{SolvesMarked, Part, part_of}
 use Rattle.section_pairs.specs.SectionFaults.{IsFirstFault}
 use Rattle.section_pairs.specs.Pairs.{PairParts}
@@ -63,7 +63,7 @@ IsToldOf x NoMemory fault = ⊥
 pub record IsGoodMark (pairs : List PairParts) (before : List PairMark) (x : PairMark) : Type 0 where
   pub pair : PairParts
   pub is_pair : IsPairOf pairs x.pair pair
-  pub good : AreGood (rows pair.strip) (cols pair.strip) (marks_of x.pair (before ++ x ∷ []))
+  pub good : AreSoundMarks (rows pair.strip) (cols pair.strip) (marks_of x.pair (before ++ x ∷ []))
 
 -- what is wrong with a mark after others: there is no such pair, or the marks of its pair up to it have a fault
 pub data HasMarkFault (pairs : List PairParts) (before : List PairMark) (x : PairMark) : Fault → Type 0 where
@@ -105,7 +105,7 @@ marked_from k (p ∷ ps) marks = if_marked k p.strip (marks_of k marks) ++ marke
 
 -- the marks are good, and the least tiling that contains them is found with its pieces
 pub record SolvesPair (t : MarkedPair) (m : Marked) : Type 0 where
-  pub good : AreGood (rows t.strip) (cols t.strip) t.marks
+  pub good : AreSoundMarks (rows t.strip) (cols t.strip) t.marks
   pub solves : SolvesMarked t.strip t.marks m
 
 -- every mark is good, and each pair with marks is solved

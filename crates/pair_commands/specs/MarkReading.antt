@@ -13,7 +13,7 @@ use Rattle.landmarks.specs.declared.marks.MarkFault.{MarkFault}
 use Rattle.landmarks.specs.declared.marks.MarkFault.TheVariants.{NoMemory}
 use Rattle.landmarks.specs.declared.pieces.Marked.{Marked}
 use Rattle.landmarks.specs.Marked.{part_of}
-use Rattle.landmarks.specs.Faults.{AreGoodBefore, IsFirstFault as IsFirstMarkFault}
+use Rattle.landmarks.specs.Faults.{AreGoodBefore, IsFirstFaultOfMarks as IsFirstMarkFault}
 use Rattle.section_pairs.specs.Pairs.{PairParts}
 use Rattle.pair_commands.specs.declared.mark_lines.PairMark.{PairMark}
 use Rattle.pair_commands.specs.Landmarks.{AreMarks, IsToldOf, marks_of, marked_text, AreGoodMarks, SolvesPair, AreSolved, if_marked, marked_from, all_text, landmarks_text}

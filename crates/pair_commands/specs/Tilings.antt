@@ -5,7 +5,7 @@ use Rattle.std.specs.Option.{option_map_or}
 use Rattle.std.specs.Fmt.{signed_decimal}
 use Rattle.section_core.specs.declared.parts.Version.{Version}
 use Rattle.section_core.specs.Parts.{ContourParts, FileParts, ObjectParts, SectionParts}
-use Rattle.section_core.specs.Canonical.{name_text as object_text}
+use Rattle.section_core.specs.Canonical.{blank_and_name as object_text}
 use Rattle.strip_graph.specs.Strips.{rows, cols}
 use Rattle.cert_checker.specs.CertTexts.{letter}
 use Rattle.row_paths.specs.Solutions.{Solution}
@@ -19,12 +19,12 @@ abbrev pub contours_at : List SectionParts → ℕ → List ContourParts
 contours_at sections place = option_map_or (λ (s : SectionParts). s.contours) (slice_get sections place) []
 
 -- a blank and the name of the contour at a place
-abbrev pub name_text : List ContourParts → ℕ → List ℕ
-name_text contours place = option_map_or (λ (c : ContourParts). 32 ∷ c.name) (slice_get contours place) []
+abbrev pub blank_and_name : List ContourParts → ℕ → List ℕ
+blank_and_name contours place = option_map_or (λ (c : ContourParts). 32 ∷ c.name) (slice_get contours place) []
 
 -- the names of the contours at some places
 abbrev pub names_text : List ContourParts → List ℕ → List ℕ
-names_text contours places = flat_map (name_text contours) places
+names_text contours places = flat_map (blank_and_name contours) places
 
 -- the line of a pair's number and gap
 abbrev pub number_text : ℕ → ℕ → List ℕ

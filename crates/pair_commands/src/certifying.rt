@@ -4,7 +4,7 @@ ghost use Rattle.strip_graph.specs.Strips.{rows};
 ghost use Rattle.row_paths.specs.Solutions.{Solution, Solves};
 ghost use Rattle.strip_potential.specs.Rows.{HasRows};
 ghost use Rattle.pair_pool.specs.Solvers.{raised_by};
-ghost use Rattle.cert_checker.specs.CertTexts.{IsLawful, parts_of};
+ghost use Rattle.cert_checker.specs.CertTexts.{IsLawfulCertificate, certificate_parts};
 ghost use Rattle.cert_checker.specs.Verdicts.{Holds};
 ghost use Rattle.section_core.specs.declared.parts.Version.TheVariants as Version;
 ghost use Rattle.section_text.specs.Fronts.{IsReadMemory};
@@ -44,10 +44,10 @@ fn certificate(
     requires some { 1 ≤ number }
     requires few { number ≤ MAX_PAIRS }
     requires solved { Solves pair.now solved }
-    ensures parts { IfOk result (λ t. parts_of t ≡ certificate number pair.now solved t.cert.pi.items) }
+    ensures parts { IfOk result (λ t. certificate_parts t ≡ certificate number pair.now solved t.cert.pi.items) }
     ensures potential { IfOk result (λ t. HasRows pair.now (2 * rows pair.now) t.cert.pi.items) }
     ensures holds { IfOk result (λ t. Holds pair.now t.cert) }
-    ensures lawful { IfOk result (λ t. IsLawful (parts_of t)) }
+    ensures lawful { IfOk result (λ t. IsLawfulCertificate (certificate_parts t)) }
 {
     let pi = potential(alloc, pair, &solved)?;
     let cert = Cert {

@@ -7,7 +7,7 @@ ghost use Rattle.section_core.specs.declared.parts.Version.TheVariants as Versio
 ghost use Rattle.section_text.specs.Fronts.{IsReadMemory};
 ghost use Rattle.command_replies.specs.Reply.{Replies};
 ghost use Rattle.command_replies.specs.Stages.{on_objects};
-ghost use Rattle.pair_commands.specs.Tilings.{contours_at, name_text, names_text, number_text, members_text, counts_text, pair_text, pairs_text, tilings, tilings_text};
+ghost use Rattle.pair_commands.specs.Tilings.{contours_at, blank_and_name, names_text, number_text, members_text, counts_text, pair_text, pairs_text, tilings, tilings_text};
 
 use cert_checker::put_letters;
 use command_replies::{objects_in, put, put_count, put_object};
@@ -30,7 +30,7 @@ fn contours_at(sections: &[Section], place: usize) -> &[Contour]
 }
 
 fn put_name(out: &mut Vec<u8>, contours: &[Contour], place: usize) -> Result<(), AllocError>
-    ensures { OnOk result (out.new.items ≡ out.old.items ++ name_text (map contour_parts contours.now) place) }
+    ensures { OnOk result (out.new.items ≡ out.old.items ++ blank_and_name (map contour_parts contours.now) place) }
 {
     match contours.get(place) {
         Some(contour) => {

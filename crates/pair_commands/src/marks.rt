@@ -2,8 +2,8 @@
 ghost use Rattle.std.specs.Prelude.{◌≡◌, ℕ, ◌+◌, ◌-◌, ◌<◌, ◌≤◌, [], ◌∷◌, ◌++◌, All, map, length, take, slice_index_or, slice_set, string_bytes, IfOk, IfErr, OnOk};
 ghost use Rattle.std.specs.List.{flat_map};
 ghost use Rattle.strip_graph.specs.Strips.{rows, cols};
-ghost use Rattle.landmarks.specs.Faults.{AreGood, AreGoodBefore};
-ghost use Rattle.landmarks.specs.Pieces.{HasValues};
+ghost use Rattle.landmarks.specs.Faults.{AreSoundMarks, AreGoodBefore};
+ghost use Rattle.landmarks.specs.Pieces.{HasPieceValues};
 ghost use Rattle.landmarks.specs.Marked.{SolvesMarked, part_of};
 ghost use Rattle.section_pairs.specs.SectionFaults.{OrNoMemory};
 ghost use Rattle.section_pairs.specs.Pairs.{pair_parts};
@@ -137,7 +137,7 @@ fn piece_head(alloc: Global, piece: &Piece) -> Result<String, AllocError>
 }
 
 fn put_piece(alloc: Global, out: &mut Vec<u8>, piece: &Piece) -> Result<(), AllocError>
-    requires { HasValues piece.now }
+    requires { HasPieceValues piece.now }
     ensures { OnOk result (out.new.items ≡ out.old.items ++ piece_text (part_of piece.now)) }
 {
     let head = piece_head(alloc, piece)?;
@@ -148,7 +148,7 @@ fn put_piece(alloc: Global, out: &mut Vec<u8>, piece: &Piece) -> Result<(), Allo
 }
 
 fn put_pieces(alloc: Global, out: &mut Vec<u8>, pieces: &[Piece]) -> Result<(), AllocError>
-    requires { All HasValues pieces.now }
+    requires { All HasPieceValues pieces.now }
     ensures { OnOk result (out.new.items ≡ out.old.items ++ flat_map piece_text (map part_of pieces.now)) }
 {
     for piece in pieces {
@@ -177,7 +177,7 @@ fn put_marked(
     count: usize,
     marked: &Marked,
 ) -> Result<(), AllocError>
-    requires { All HasValues marked.now.pieces.items }
+    requires { All HasPieceValues marked.now.pieces.items }
     ensures { OnOk result (out.new.items ≡ out.old.items ++ marked_of number count marked.now) }
 {
     let head = pair_head(alloc, number, count, marked)?;
@@ -189,7 +189,7 @@ fn put_marked(
 
 // Solves a pair with good marks.
 fn solved(alloc: Global, pair: &Pair, marks: &[Mark]) -> Result<Marked, NoMemory>
-    requires { AreGood (rows pair.now) (cols pair.now) marks.now }
+    requires { AreSoundMarks (rows pair.now) (cols pair.now) marks.now }
     ensures { IfOk result (SolvesMarked pair.now marks.now) }
 {
     match solve_marked(alloc, pair, marks) {

@@ -58,11 +58,15 @@ pub(crate) fn draw_all<R: Threads, B: Batch, F: FnOnce() -> A, A>(
         rt,
         || -> Result<Vec<(usize, B::Made)>, NoMemory>
             requires { IsSync B.row × IsSend B.Made.row × All (λ place. place < B.places batch.now) order.now }
-            ensures { IfOk result (λ v. All (λ d. IsMadeAt (B.places batch.entry.now) (B.is_right batch.entry.now) d.0 d.1) v.items) }
+            ensures { IfOk result (λ v. All (λ d.
+                IsMadeAt (B.places batch.entry.now) (B.is_right batch.entry.now) d.0 d.1) v.items) }
         { draw(alloc, batch, order, next) },
         move || -> (Result<Vec<(usize, B::Made)>, NoMemory>, A)
-            requires { IsSync B.row × IsSend B.Tools.row × IsSend B.Made.row × (All (λ place. place < B.places batch.now) order.now) × F.pre beside }
-            ensures { (IfOk result.0 (λ v. All (λ d. IsMadeAt (B.places batch.entry.now) (B.is_right batch.entry.now) d.0 d.1) v.items)) × F.post beside result.1 }
+            requires { IsSync B.row × IsSend B.Tools.row × IsSend B.Made.row
+                × (All (λ place. place < B.places batch.now) order.now) × F.pre beside }
+            ensures { (IfOk result.0 (λ v. All
+                (λ d. IsMadeAt (B.places batch.entry.now) (B.is_right batch.entry.now) d.0 d.1) v.items))
+                × F.post beside result.1 }
         { draw_all(rt, alloc, batch, order, next, others, beside) },
     );
     (all_drawn(batch, one_drawn, others_drawn), made)

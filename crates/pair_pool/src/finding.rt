@@ -1,7 +1,7 @@
 //! Finding pairs as a batch.
 ghost use Rattle.std.specs.Prelude.{◌+◌, ◌-◌, ◌<◌, ◌≤◌, All, IfOk, IfErr, length, map};
 ghost use Rattle.section_core.specs.ValidSections.{section_of};
-ghost use Rattle.correspondence.specs.Named.{IsTableOf};
+ghost use Rattle.correspondence.specs.Named.{IsLinkTableOf};
 ghost use Rattle.strip_graph.specs.Strips.{IsStrip};
 ghost use Rattle.section_pairs.specs.Pairs.{pair_parts};
 ghost use Rattle.section_pairs.specs.Ranges.{AreFindings};
@@ -26,7 +26,7 @@ use std::thread::Threads;
 struct Finding<'a> {
     sections: &'a Sections,
     table: &'a LinkTable,
-    ghost named: { IsTableOf table.now sections.now.links },
+    ghost named: { IsLinkTableOf table.now sections.now.links },
 }
 
 // The places up to a number.
@@ -72,7 +72,7 @@ impl<'a> Batch for Finding<'a> {
 
 // The findings of all sections and gaps, from those of each.
 fn merge_all(alloc: Global, sections: &Sections, table: &LinkTable, each: Vec<Findings>) -> Findings
-    requires table { IsTableOf table.now sections.now.links }
+    requires table { IsLinkTableOf table.now sections.now.links }
     requires made { AreMade (length sections.now.sections) (IsFoundAt sections.now) each.items }
     ensures { AreFindings sections.now (map section_of sections.now.sections) 0 (length sections.now.sections - 1)
         result }

@@ -3,9 +3,9 @@ use Rattle.std.proofs.Common.{◌≡◌, ℕ, ◌+◌, ◌*◌, ◌-◌, ◌≤�
 use Rattle.std.proofs.lemmas.Int.{ints, clamps, by_lt_z}
 use borrow.Author.Differences.{up, down}
 use Rattle.fku_types.specs.declared.points.Point.{Point}
-use Rattle.plane_geom.specs.Planes.{cross, side}
+use Rattle.plane_geom.specs.Planes.{cross_product, side}
 use Rattle.plane_geom.specs.Segments.{scaled, SharePoint}
-use Rattle.plane_geom.specs.Signs.{Overlap}
+use Rattle.plane_geom.specs.Signs.{RangesOverlap}
 use Rattle.plane_geom.proofs.Vectors.{neg-mul, mul-comm, mul-sub, cancel-le, natural}
 use Rattle.plane_geom.proofs.SegmentSides.{scaled_of}
 
@@ -48,7 +48,7 @@ pub record Flat (a b c d : Point) : Type 0 where
   pub a_flat : side c d a ≡ pos 0
   pub b_flat : side c d b ≡ pos 0
 
-turned_cross : (ux uy wx wy : ℤ) → cross (neg_ℤ ux) (neg_ℤ uy) (wx -ℤ ux) (wy -ℤ uy) ≡ neg_ℤ (cross ux uy wx wy)
+turned_cross : (ux uy wx wy : ℤ) → cross_product (neg_ℤ ux) (neg_ℤ uy) (wx -ℤ ux) (wy -ℤ uy) ≡ neg_ℤ (cross_product ux uy wx wy)
 turned_cross ux uy wx wy =
     omega (arith, ints, neg-mul ux (wy -ℤ uy), neg-mul uy (wx -ℤ ux), mul-sub ux wy uy, mul-sub uy wx ux, mul-comm ux uy)
 
@@ -58,8 +58,8 @@ side_back a b c =
     let ey : a.y -ℤ b.y ≡ neg_ℤ (b.y -ℤ a.y) = omega (arith, ints) in
     let fx : c.x -ℤ b.x ≡ (c.x -ℤ a.x) -ℤ (b.x -ℤ a.x) = omega (arith, ints) in
     let fy : c.y -ℤ b.y ≡ (c.y -ℤ a.y) -ℤ (b.y -ℤ a.y) = omega (arith, ints) in
-    ap₂ (λ (x y : ℤ). cross x y (c.x -ℤ b.x) (c.y -ℤ b.y)) ex ey
-    ∙ ap₂ (λ (x y : ℤ). cross (neg_ℤ (b.x -ℤ a.x)) (neg_ℤ (b.y -ℤ a.y)) x y) fx fy
+    ap₂ (λ (x y : ℤ). cross_product x y (c.x -ℤ b.x) (c.y -ℤ b.y)) ex ey
+    ∙ ap₂ (λ (x y : ℤ). cross_product (neg_ℤ (b.x -ℤ a.x)) (neg_ℤ (b.y -ℤ a.y)) x y) fx fy
     ∙ turned_cross (b.x -ℤ a.x) (b.y -ℤ a.y) (c.x -ℤ a.x) (c.y -ℤ a.y)
 
 flat_first : (a b c d : Point) → Flat a b c d → Flat b a c d
@@ -76,13 +76,13 @@ flat_both a b c d h = record { c_flat = h.a_flat; d_flat = h.b_flat; a_flat = h.
 flat_second : (a b c d : Point) → Flat a b c d → Flat a b d c
 flat_second a b c d h = flat_both d c a b (flat_first c d a b (flat_both a b c d h))
 
-overlap_first : (a b c d : ℤ) → Overlap a b c d → Overlap b a c d
+overlap_first : (a b c d : ℤ) → RangesOverlap a b c d → RangesOverlap b a c d
 overlap_first a b c d h = (omega (arith, ints, clamps, h.0, h.1), omega (arith, ints, clamps, h.0, h.1))
 
-overlap_second : (a b c d : ℤ) → Overlap a b c d → Overlap a b d c
+overlap_second : (a b c d : ℤ) → RangesOverlap a b c d → RangesOverlap a b d c
 overlap_second a b c d h = (omega (arith, ints, clamps, h.0, h.1), omega (arith, ints, clamps, h.0, h.1))
 
-overlap_both : (a b c d : ℤ) → Overlap a b c d → Overlap c d a b
+overlap_both : (a b c d : ℤ) → RangesOverlap a b c d → RangesOverlap c d a b
 overlap_both a b c d h = (h.1, h.0)
 
 -- both segments have the same begin
@@ -134,25 +134,25 @@ column_core a b c d h low high =
     (omega (arith, ints, ap (λ z. pos s.0 *ℤ z) e.1, ap (λ z. pos e.0 *ℤ z) s.1)))
     (λ flat. one_begin a b c d h.ac (omega (arith, ints)))
 
-column_sorted : (a b c d : Point) → Column a b c d → Overlap a.y b.y c.y d.y → a.y ≤ℤ b.y → c.y ≤ℤ d.y → SharePoint a b c d
+column_sorted : (a b c d : Point) → Column a b c d → RangesOverlap a.y b.y c.y d.y → a.y ≤ℤ b.y → c.y ≤ℤ d.y → SharePoint a b c d
 column_sorted a b c d h o ab cd =
     by_lt_z c.y a.y
     (λ below. exchange_both a b c d (column_core c d a b (record { ab = omega (arith, ints, h.ac, h.ad); ac = sym h.ac; ad = omega (arith, ints, h.ab, h.ac) }) (omega (arith, ints)) (omega (arith, ints, clamps, o.0, o.1))))
     (λ above. column_core a b c d h above (omega (arith, ints, clamps, o.0, o.1)))
 
-column_half : (a b c d : Point) → Column a b c d → Overlap a.y b.y c.y d.y → a.y ≤ℤ b.y → SharePoint a b c d
+column_half : (a b c d : Point) → Column a b c d → RangesOverlap a.y b.y c.y d.y → a.y ≤ℤ b.y → SharePoint a b c d
 column_half a b c d h o ab =
     by_lt_z d.y c.y
     (λ falling. exchange_second a b c d (column_sorted a b d c (record { ab = h.ab; ac = h.ad; ad = h.ac }) (overlap_second a.y b.y c.y d.y o) ab (omega (arith, ints))))
     (λ rising. column_sorted a b c d h o ab rising)
 
-column : (a b c d : Point) → Column a b c d → Overlap a.y b.y c.y d.y → SharePoint a b c d
+column : (a b c d : Point) → Column a b c d → RangesOverlap a.y b.y c.y d.y → SharePoint a b c d
 column a b c d h o =
     by_lt_z b.y a.y
     (λ falling. exchange_first a b c d (column_half b a c d (record { ab = sym h.ab; ac = omega (arith, ints, h.ab, h.ac); ad = omega (arith, ints, h.ab, h.ad) }) (overlap_first a.y b.y c.y d.y o) (omega (arith, ints))))
     (λ rising. column_half a b c d h o rising)
 
-flat_core : (a b c d : Point) → Flat a b c d → Overlap a.y b.y c.y d.y → a.x ≤ℤ b.x → c.x ≤ℤ d.x → a.x ≤ℤ c.x → c.x ≤ℤ b.x → SharePoint a b c d
+flat_core : (a b c d : Point) → Flat a b c d → RangesOverlap a.y b.y c.y d.y → a.x ≤ℤ b.x → c.x ≤ℤ d.x → a.x ≤ℤ c.x → c.x ≤ℤ b.x → SharePoint a b c d
 flat_core a b c d h o ab cd low high =
     by_lt_z a.x b.x
     (λ rising.
@@ -176,19 +176,19 @@ flat_core a b c d h o ab cd low high =
     omega (arith, ints)))
     (λ still. column a b c d (record { ab = omega (arith, ints); ac = ac; ad = omega (arith, ints) }) o))
 
-flat_sorted : (a b c d : Point) → Flat a b c d → Overlap a.x b.x c.x d.x → Overlap a.y b.y c.y d.y → a.x ≤ℤ b.x → c.x ≤ℤ d.x → SharePoint a b c d
+flat_sorted : (a b c d : Point) → Flat a b c d → RangesOverlap a.x b.x c.x d.x → RangesOverlap a.y b.y c.y d.y → a.x ≤ℤ b.x → c.x ≤ℤ d.x → SharePoint a b c d
 flat_sorted a b c d h ox oy ab cd =
     by_lt_z c.x a.x
     (λ below. exchange_both a b c d (flat_core c d a b (flat_both a b c d h) (overlap_both a.y b.y c.y d.y oy) cd ab (omega (arith, ints)) (omega (arith, ints, clamps, ox.0, ox.1))))
     (λ above. flat_core a b c d h oy ab cd above (omega (arith, ints, clamps, ox.0, ox.1)))
 
-flat_half : (a b c d : Point) → Flat a b c d → Overlap a.x b.x c.x d.x → Overlap a.y b.y c.y d.y → a.x ≤ℤ b.x → SharePoint a b c d
+flat_half : (a b c d : Point) → Flat a b c d → RangesOverlap a.x b.x c.x d.x → RangesOverlap a.y b.y c.y d.y → a.x ≤ℤ b.x → SharePoint a b c d
 flat_half a b c d h ox oy ab =
     by_lt_z d.x c.x
     (λ falling. exchange_second a b c d (flat_sorted a b d c (flat_second a b c d h) (overlap_second a.x b.x c.x d.x ox) (overlap_second a.y b.y c.y d.y oy) ab (omega (arith, ints))))
     (λ rising. flat_sorted a b c d h ox oy ab rising)
 
-pub flat_share : (a b c d : Point) → Flat a b c d → Overlap a.x b.x c.x d.x → Overlap a.y b.y c.y d.y → SharePoint a b c d
+pub flat_share : (a b c d : Point) → Flat a b c d → RangesOverlap a.x b.x c.x d.x → RangesOverlap a.y b.y c.y d.y → SharePoint a b c d
 flat_share a b c d h ox oy =
     by_lt_z b.x a.x
     (λ falling. exchange_first a b c d (flat_half b a c d (flat_first a b c d h) (overlap_first a.x b.x c.x d.x ox) (overlap_first a.y b.y c.y d.y oy) (omega (arith, ints))))

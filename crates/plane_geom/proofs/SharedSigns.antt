@@ -4,9 +4,9 @@ use Rattle.std.specs.Int.{int_min, int_max}
 use Rattle.std.proofs.lemmas.Int.{ints, clamps, by_lt_z}
 use borrow.Author.Differences.{up, down}
 use Rattle.fku_types.specs.declared.points.Point.{Point}
-use Rattle.plane_geom.specs.Planes.{cross, side}
+use Rattle.plane_geom.specs.Planes.{cross_product, side}
 use Rattle.plane_geom.specs.Segments.{scaled, SharePoint}
-use Rattle.plane_geom.specs.Signs.{Opposite, Overlap}
+use Rattle.plane_geom.specs.Signs.{Opposite, RangesOverlap}
 use Rattle.plane_geom.proofs.Vectors.{neg-mul, mul-comm, mul-add, along_first, along_second, le-mul, within_up, within_down}
 use Rattle.plane_geom.proofs.SegmentSides.{difference_of, mixture, side_d, side_a, side_b}
 
@@ -30,7 +30,7 @@ pub opposite_sides : (a b c d : Point) → SharePoint a b c d → Opposite (side
 opposite_sides a b c d h =
     let hx : pos h.s *ℤ (b.x -ℤ a.x) ≡ (pos h.e *ℤ (c.x -ℤ a.x)) +ℤ (pos h.t *ℤ (d.x -ℤ c.x)) = difference_of h.s h.t h.e a.x b.x c.x d.x h.at.x in
     let hy : pos h.s *ℤ (b.y -ℤ a.y) ≡ (pos h.e *ℤ (c.y -ℤ a.y)) +ℤ (pos h.t *ℤ (d.y -ℤ c.y)) = difference_of h.s h.t h.e a.y b.y c.y d.y h.at.y in
-    opposite_of h.s h.t h.e (cross (b.x -ℤ a.x) (b.y -ℤ a.y) (d.x -ℤ c.x) (d.y -ℤ c.y)) (side a b c) (side a b d) (side c d a) (side c d b) h.at.positive h.at.on_first h.at.on_second
+    opposite_of h.s h.t h.e (cross_product (b.x -ℤ a.x) (b.y -ℤ a.y) (d.x -ℤ c.x) (d.y -ℤ c.y)) (side a b c) (side a b d) (side c d a) (side c d b) h.at.positive h.at.on_first h.at.on_second
     (along_second (pos h.s) (pos h.t) (pos h.e) (b.x -ℤ a.x) (b.y -ℤ a.y) (d.x -ℤ c.x) (d.y -ℤ c.y) (c.x -ℤ a.x) (c.y -ℤ a.y) hx hy ∙ ap (λ z. pos h.e *ℤ z) (sym (side_a a c d)))
     (along_first (pos h.s) (pos h.t) (pos h.e) (b.x -ℤ a.x) (b.y -ℤ a.y) (d.x -ℤ c.x) (d.y -ℤ c.y) (c.x -ℤ a.x) (c.y -ℤ a.y) hx hy)
     (side_d a b c d)
@@ -64,15 +64,15 @@ not_above s t e a b c d positive h k same =
     absurd (omega (arith, ints, mul-add (pos e) (int_max c d) (pos 1))))
     (λ fine. fine)
 
-pub overlap_of : (s t e : ℕ) (a b c d : ℤ) → 0 < e → s ≤ e → t ≤ e → scaled e s a b ≡ scaled e t c d → Overlap a b c d
+pub overlap_of : (s t e : ℕ) (a b c d : ℤ) → 0 < e → s ≤ e → t ≤ e → scaled e s a b ≡ scaled e t c d → RangesOverlap a b c d
 overlap_of s t e a b c d positive h k same = (not_above s t e a b c d positive h k same, not_above t s e c d a b positive k h (sym same))
 
 -- ---- the test
 pub record BySigns (a b c d : Point) : Type 0 where
   pub across_first : Opposite (side a b c) (side a b d)
   pub across_second : Opposite (side c d a) (side c d b)
-  pub x : Overlap a.x b.x c.x d.x
-  pub y : Overlap a.y b.y c.y d.y
+  pub x : RangesOverlap a.x b.x c.x d.x
+  pub y : RangesOverlap a.y b.y c.y d.y
 
 pub by_signs : (a b c d : Point) → SharePoint a b c d → BySigns a b c d
 by_signs a b c d h =

@@ -4,12 +4,12 @@ use Rattle.fku_types.specs.declared.points.Point.{Point}
 use Rattle.plane_geom.specs.Rings.{origin, ring_edges}
 
 -- the cross product of two vectors
-abbrev pub cross : ℤ → ℤ → ℤ → ℤ → ℤ
-cross ux uy vx vy = (ux *ℤ vy) -ℤ (uy *ℤ vx)
+abbrev pub cross_product : ℤ → ℤ → ℤ → ℤ → ℤ
+cross_product ux uy vx vy = (ux *ℤ vy) -ℤ (uy *ℤ vx)
 
 -- twice the signed area of the triangle from a to b to c: positive if c lies to the left of the line from a to b
 abbrev pub side : Point → Point → Point → ℤ
-side a b c = cross (b.x -ℤ a.x) (b.y -ℤ a.y) (c.x -ℤ a.x) (c.y -ℤ a.y)
+side a b c = cross_product (b.x -ℤ a.x) (b.y -ℤ a.y) (c.x -ℤ a.x) (c.y -ℤ a.y)
 
 -- the same for a list of three points
 abbrev pub side_of : List Point → ℤ
@@ -22,7 +22,7 @@ signed_sum f (x ∷ xs) = f x +ℤ signed_sum f xs
 
 -- what an edge adds to the turns of its ring
 abbrev pub edge_turn : Point → Point → ℤ
-edge_turn a b = cross a.x a.y b.x b.y
+edge_turn a b = cross_product a.x a.y b.x b.y
 
 -- twice the signed area of a ring: the sum over its edges
 abbrev pub turns : List Point → ℤ

@@ -3,7 +3,7 @@ use Rattle.std.proofs.Common.{◌≡◌, ℕ, List, [], ◌∷◌, ℤ, pos, ◌
 use Rattle.std.specs.List.{AllByRecursion}
 use Rattle.std.proofs.lemmas.Int.{ints}
 use Rattle.fku_types.specs.declared.points.Point.{Point}
-use Rattle.plane_geom.specs.Planes.{cross, side, side_of}
+use Rattle.plane_geom.specs.Planes.{cross_product, side, side_of}
 use Rattle.plane_geom.proofs.Vectors.{mul-sub, mul-add, mul-comm, mul-assoc}
 use Rattle.ring_polygons.specs.Caps.{points_at, area_of, turned_over}
 use Rattle.ring_polygons.proofs.AreaLaws.{product}
@@ -22,7 +22,7 @@ out_first a m b = ap (λ (z : ℤ). a *ℤ z) (mul-comm m b) ∙ out_last a b m
 sum_of_six : (a b c d e f : ℤ) → ℤ
 sum_of_six a b c d e f = ((a -ℤ b) -ℤ c) -ℤ ((d -ℤ e) -ℤ f)
 
-area_of_six : (px py qx qy rx ry : ℤ) → cross (qx -ℤ px) (qy -ℤ py) (rx -ℤ px) (ry -ℤ py) ≡ sum_of_six (qx *ℤ ry) (qx *ℤ py) (px *ℤ ry) (qy *ℤ rx) (qy *ℤ px) (py *ℤ rx)
+area_of_six : (px py qx qy rx ry : ℤ) → cross_product (qx -ℤ px) (qy -ℤ py) (rx -ℤ px) (ry -ℤ py) ≡ sum_of_six (qx *ℤ ry) (qx *ℤ py) (px *ℤ ry) (qy *ℤ rx) (qy *ℤ px) (py *ℤ rx)
 unfolding sum_of_six
 area_of_six px py qx qy rx ry = omega (arith, ints, product qx px ry py, product qy py rx px, mul-comm px py)
 
@@ -31,7 +31,7 @@ unfolding sum_of_six
 times_six m a b c d e f =
     omega (arith, ints, mul-sub m ((a -ℤ b) -ℤ c) ((d -ℤ e) -ℤ f), mul-sub m (a -ℤ b) c, mul-sub m a b, mul-sub m (d -ℤ e) f, mul-sub m d e)
 
-volume_of_six : (px py qx qy rx ry m : ℤ) → (px *ℤ cross qy m ry m) +ℤ (py *ℤ cross m qx m rx) +ℤ (m *ℤ cross qx qy rx ry)
+volume_of_six : (px py qx qy rx ry m : ℤ) → (px *ℤ cross_product qy m ry m) +ℤ (py *ℤ cross_product m qx m rx) +ℤ (m *ℤ cross_product qx qy rx ry)
     ≡ sum_of_six (m *ℤ (qx *ℤ ry)) (m *ℤ (qx *ℤ py)) (m *ℤ (px *ℤ ry)) (m *ℤ (qy *ℤ rx)) (m *ℤ (qy *ℤ px)) (m *ℤ (py *ℤ rx))
 unfolding sum_of_six
 volume_of_six px py qx qy rx ry m =
@@ -49,15 +49,15 @@ volume_of_six px py qx qy rx ry m =
       ap (λ (z : ℤ). m *ℤ z) (mul-comm py qx),
     )
 
-flat_numbers : (px py qx qy rx ry m : ℤ) → (px *ℤ cross qy m ry m) +ℤ (py *ℤ cross m qx m rx) +ℤ (m *ℤ cross qx qy rx ry) ≡ m *ℤ cross (qx -ℤ px) (qy -ℤ py) (rx -ℤ px) (ry -ℤ py)
+flat_numbers : (px py qx qy rx ry m : ℤ) → (px *ℤ cross_product qy m ry m) +ℤ (py *ℤ cross_product m qx m rx) +ℤ (m *ℤ cross_product qx qy rx ry) ≡ m *ℤ cross_product (qx -ℤ px) (qy -ℤ py) (rx -ℤ px) (ry -ℤ py)
 flat_numbers px py qx qy rx ry m =
     volume_of_six px py qx qy rx ry m ∙ sym (times_six m (qx *ℤ ry) (qx *ℤ py) (px *ℤ ry) (qy *ℤ rx) (qy *ℤ px) (py *ℤ rx)) ∙ ap (λ (z : ℤ). m *ℤ z) (sym (area_of_six px py qx qy rx ry))
 
 -- three points at one height
 flat : (p q r : Point) (m : ℤ) → p.z ≡ m → q.z ≡ m → r.z ≡ m → determinant p q r ≡ m *ℤ side p q r
 flat p q r m a b c =
-    ap₂ (λ (y z : ℤ). (p.x *ℤ cross q.y y r.y z) +ℤ (p.y *ℤ cross y q.x z r.x) +ℤ (p.z *ℤ cross q.x q.y r.x r.y)) b c
-    ∙ ap (λ (z : ℤ). (p.x *ℤ cross q.y m r.y m) +ℤ (p.y *ℤ cross m q.x m r.x) +ℤ (z *ℤ cross q.x q.y r.x r.y)) a
+    ap₂ (λ (y z : ℤ). (p.x *ℤ cross_product q.y y r.y z) +ℤ (p.y *ℤ cross_product y q.x z r.x) +ℤ (p.z *ℤ cross_product q.x q.y r.x r.y)) b c
+    ∙ ap (λ (z : ℤ). (p.x *ℤ cross_product q.y m r.y m) +ℤ (p.y *ℤ cross_product m q.x m r.x) +ℤ (z *ℤ cross_product q.x q.y r.x r.y)) a
     ∙ flat_numbers p.x p.y q.x q.y r.x r.y m
 
 -- an area does not depend on the point from which it is seen
@@ -66,8 +66,8 @@ moved a b o = omega (arith, ints)
 
 side_moved : (o a b c : Point) → side (seen_from o a) (seen_from o b) (seen_from o c) ≡ side a b c
 side_moved o a b c =
-    ap₂ (λ (x y : ℤ). cross x y ((c.x -ℤ o.x) -ℤ (a.x -ℤ o.x)) ((c.y -ℤ o.y) -ℤ (a.y -ℤ o.y))) (moved a.x b.x o.x) (moved a.y b.y o.y)
-    ∙ ap₂ (λ (x y : ℤ). cross (b.x -ℤ a.x) (b.y -ℤ a.y) x y) (moved a.x c.x o.x) (moved a.y c.y o.y)
+    ap₂ (λ (x y : ℤ). cross_product x y ((c.x -ℤ o.x) -ℤ (a.x -ℤ o.x)) ((c.y -ℤ o.y) -ℤ (a.y -ℤ o.y))) (moved a.x b.x o.x) (moved a.y b.y o.y)
+    ∙ ap₂ (λ (x y : ℤ). cross_product (b.x -ℤ a.x) (b.y -ℤ a.y) x y) (moved a.x c.x o.x) (moved a.y c.y o.y)
 
 -- a vertex at a height
 abbrev pub AtHeight : List Point → ℤ → ℕ → Type 0
@@ -100,7 +100,7 @@ flat_part vertices o h (t ∷ ts) n k =
 side_turned : (a b c : Point) → side a c b ≡ neg_ℤ (side a b c)
 side_turned a b c = turned (b.x -ℤ a.x) (b.y -ℤ a.y) (c.x -ℤ a.x) (c.y -ℤ a.y)
   where
-    turned : (ux uy vx vy : ℤ) → cross vx vy ux uy ≡ neg_ℤ (cross ux uy vx vy)
+    turned : (ux uy vx vy : ℤ) → cross_product vx vy ux uy ≡ neg_ℤ (cross_product ux uy vx vy)
     turned ux uy vx vy = omega (arith, ints, mul-comm vx uy, mul-comm vy ux)
 
 one_turned : (vertices : List Point) (t : List ℕ) → HasThree t → side_of (points_at vertices (swap t 1 2)) ≡ neg_ℤ (side_of (points_at vertices t))

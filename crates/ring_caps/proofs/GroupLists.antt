@@ -7,12 +7,12 @@ use Rattle.std.proofs.lemmas.List.Sums.{sum_by-cons}
 use Rattle.plane_geom.specs.Rings.{RingView}
 use Rattle.ring_polygons.specs.Composites.{view_at}
 use Rattle.section_pairs.specs.Rings.{pick}
-use Rattle.surface_core.specs.Marks.{AreMarks}
+use Rattle.surface_core.specs.Marks.{AreSetAt}
 use Rattle.surface_core.proofs.MarkSteps.{filter_same}
 use Rattle.fku_types.specs.declared.limits.TheConstants.{MAX_SECTION_VERTICES}
 use Rattle.fku_types.proofs.ListLaws.{all_map, range_more}
 use Rattle.surface_core.proofs.PlaceSums.{weight, pick_weight, pick_all}
-use Rattle.ring_caps.specs.Groups.{parent_passes, begins, goes_on, group, groups, is_capped}
+use Rattle.ring_caps.specs.Groups.{parent_passes, begins, joins_group, group, groups, is_capped}
 use Rattle.ring_caps.specs.Held.{capped_by, IsGroup}
 use Rattle.ring_caps.proofs.GroupSums.{AreFamilies, one_group}
 
@@ -27,7 +27,7 @@ begins_same capped capped' parents parents' n o p h k l =
     ap₂ (λ (a b : Bool). a && not b) (o k l) (ap (parent_passes capped) (p k l) ∙ passes_same capped capped' n (parents' k) o (λ j e. h.there k j l e))
 
 goes_on_same : (capped capped' : ℕ → Bool) (parents parents' : ℕ → Option ℕ) (n : ℕ) → ((k : ℕ) → k < n → capped k ≡ capped' k) → ((k : ℕ) → k < n → parents k ≡ parents' k) →
-    (k j : ℕ) → j < n → goes_on capped parents k j ≡ goes_on capped' parents' k j
+    (k j : ℕ) → j < n → joins_group capped parents k j ≡ joins_group capped' parents' k j
 goes_on_same capped capped' parents parents' n o p k j l = ap₂ (λ (a : Bool) (b : Option ℕ). a && parent_passes (λ i. i == k) b) (o j l) (p j l)
 
 map_same : {X Y : Type 0} (f g : X → Y) → ((x : X) → f x ≡ g x) → (xs : List X) → map f xs ≡ map g xs
@@ -37,12 +37,12 @@ map_same {Y = Y} f g h (x ∷ xs) = ap₂ (λ (y : Y) (ys : List Y). y ∷ ys) (
 pub groups_same : (capped capped' : ℕ → Bool) (parents parents' : ℕ → Option ℕ) (n : ℕ) → ((k : ℕ) → k < n → capped k ≡ capped' k) → ((k : ℕ) → k < n → parents k ≡ parents' k) → AreFamilies parents' n →
     groups capped parents n ≡ groups capped' parents' n
 groups_same capped capped' parents parents' n o p h =
-    map_same (group capped parents n) (group capped' parents' n) (λ k. ap (λ (l : List ℕ). k ∷ l) (filter_same (goes_on capped parents k) (goes_on capped' parents' k) 0 n (λ j a b. goes_on_same capped capped' parents parents' n o p k j (omega arith))))
+    map_same (group capped parents n) (group capped' parents' n) (λ k. ap (λ (l : List ℕ). k ∷ l) (filter_same (joins_group capped parents k) (joins_group capped' parents' k) 0 n (λ j a b. goes_on_same capped capped' parents parents' n o p k j (omega arith))))
     (filter (begins capped parents) (range_with_len 0 n))
     ∙ ap (map (group capped' parents' n)) (filter_same (begins capped parents) (begins capped' parents') 0 n (λ k a b. begins_same capped capped' parents parents' n o p h k (omega arith)))
 
 -- a contour without a mark has a cap
-pub capped_same : (marks : List Bool) (n : ℕ) (joined : List ℕ) → AreMarks marks n joined → (k : ℕ) → k < n → capped_by marks k ≡ is_capped joined k
+pub capped_same : (marks : List Bool) (n : ℕ) (joined : List ℕ) → AreSetAt marks n joined → (k : ℕ) → k < n → capped_by marks k ≡ is_capped joined k
 capped_same marks n joined h k l = ap not (h.set k l)
 
 -- ---- what holds of each group
@@ -71,7 +71,7 @@ is_group rings capped parents k h l b few =
     let r : ℕ → ℕ = λ i. points_of (view_at rings i) in
     record {
       some = omega arith;
-      there = (l, filter_all (λ j. j < n) (goes_on capped parents k) 0 n (λ j a c t. omega arith));
+      there = (l, filter_all (λ j. j < n) (joins_group capped parents k) 0 n (λ j a c t. omega arith));
       few = omega (
         arith,
         few,

@@ -3,7 +3,7 @@ use Rattle.std.proofs.Common.{◌≡◌, ℕ, zero, suc, ◌+◌, ◌<◌, ◌�
 use Rattle.std.specs.List.{range_with_len}
 use Rattle.std.proofs.lemmas.Bool.{cases_eq, ne_eqb, eq-eqb, and_right}
 use Rattle.surface_core.proofs.PlaceSums.{adds, adds_cond}
-use Rattle.ring_caps.specs.Groups.{parent_passes, begins, goes_on, group}
+use Rattle.ring_caps.specs.Groups.{parent_passes, begins, joins_group, group}
 
 -- ---- sums
 adds_filter : (r : ℕ → ℕ) (test : ℕ → Bool) (ks : List ℕ) → adds r (filter test ks) ≡ adds (λ k. cond (test k) (r k) 0) ks
@@ -79,14 +79,14 @@ passed b c x m v f =
 
 -- the sum over the groups to which contour j belongs: that of its parent, if both have a cap
 abbrev gone_on : (ℕ → ℕ) → (ℕ → Bool) → (ℕ → Option ℕ) → ℕ → ℕ → ℕ
-gone_on r capped parents n j = adds (λ k. cond (begins capped parents k) (cond (goes_on capped parents k j) (r j) 0) 0) (range_with_len 0 n)
+gone_on r capped parents n j = adds (λ k. cond (begins capped parents k) (cond (joins_group capped parents k j) (r j) 0) 0) (range_with_len 0 n)
 
 alone : (r : ℕ → ℕ) (capped : ℕ → Bool) (parents : ℕ → Option ℕ) (n j : ℕ) → parents j ≡ None → gone_on r capped parents n j ≡ tail r capped parents j
 alone r capped parents n j e =
-    let zero_each : (k : ℕ) → cond (begins capped parents k) (cond (goes_on capped parents k j) (r j) 0) 0 ≡ 0 = λ k.
+    let zero_each : (k : ℕ) → cond (begins capped parents k) (cond (joins_group capped parents k j) (r j) 0) 0 ≡ 0 = λ k.
     ap (λ (o : Option ℕ). cond (begins capped parents k) (cond (capped j && parent_passes (λ i. i == k) o) (r j) 0) 0) e
     ∙ ap (λ (t : Bool). cond (begins capped parents k) (cond t (r j) 0) 0) (and_right (capped j) false refl) ∙ cond_same (begins capped parents k) 0 in
-    adds_same (λ k. cond (begins capped parents k) (cond (goes_on capped parents k j) (r j) 0) 0) (λ k. 0) 0 n (λ k a b. zero_each k) ∙ adds_none (range_with_len 0 n)
+    adds_same (λ k. cond (begins capped parents k) (cond (joins_group capped parents k j) (r j) 0) 0) (λ k. 0) 0 n (λ k a b. zero_each k) ∙ adds_none (range_with_len 0 n)
     ∙ sym (ap (λ (o : Option ℕ). cond (capped j && parent_passes capped o) (r j) 0) e ∙ ap (λ (t : Bool). cond t (r j) 0) (and_right (capped j) false refl))
 
 with_parent : (r : ℕ → ℕ) (capped : ℕ → Bool) (parents : ℕ → Option ℕ) (n j p : ℕ) → p < n → parents p ≡ None → parents j ≡ Some p → gone_on r capped parents n j ≡ tail r capped parents j
@@ -97,7 +97,7 @@ with_parent r capped parents n j p l none e =
       | inl same ↦ chosen (begins capped parents k) (p == k) (capped j) (capped p) (r j) (eq-eqb p k same) (ap (begins capped parents) (sym same) ∙ head)
       | inr ne ↦ passed (begins capped parents k) (p == k) (capped j) (r j) v (ne_eqb p k ne)
     ] in
-    adds_same (λ k. cond (begins capped parents k) (cond (goes_on capped parents k j) (r j) 0) 0) (λ k. cond (p == k) v 0) 0 n
+    adds_same (λ k. cond (begins capped parents k) (cond (joins_group capped parents k j) (r j) 0) 0) (λ k. cond (p == k) v 0) 0 n
     (λ k a b. ap (λ (o : Option ℕ). cond (begins capped parents k) (cond (capped j && parent_passes (λ i. i == k) o) (r j) 0) 0) e ∙ term k)
     ∙ adds_one p v 0 n (omega arith) (omega (arith, l)) ∙ sym (ap (λ (o : Option ℕ). cond (capped j && parent_passes capped o) (r j) 0) e)
 
@@ -125,9 +125,9 @@ pub group_adds : (r : ℕ → ℕ) (capped : ℕ → Bool) (parents : ℕ → Op
 group_adds r capped parents n h =
     let all : List ℕ = range_with_len 0 n in
     let heads : ℕ → ℕ = λ k. cond (begins capped parents k) (r k) 0 in
-    let others : ℕ → ℕ → ℕ = λ k j. cond (goes_on capped parents k j) (r j) 0 in
+    let others : ℕ → ℕ → ℕ = λ k j. cond (joins_group capped parents k j) (r j) 0 in
     let one : (k : ℕ) → cond (begins capped parents k) (adds r (group capped parents n k)) 0 ≡ heads k + adds (λ j. cond (begins capped parents k) (others k j) 0) all = λ k.
-    omega (arith, split (begins capped parents k) (r k) (adds r (filter (goes_on capped parents k) all)), ap (λ (m : ℕ). cond (begins capped parents k) m 0) (adds_filter r (goes_on capped parents k) all), cond_adds (begins capped parents k) (others k) all) in
+    omega (arith, split (begins capped parents k) (r k) (adds r (filter (joins_group capped parents k) all)), ap (λ (m : ℕ). cond (begins capped parents k) m 0) (adds_filter r (joins_group capped parents k) all), cond_adds (begins capped parents k) (others k) all) in
     let whole = adds_filter (λ k. adds r (group capped parents n k)) (begins capped parents) all in
     let parts = adds_same (λ k. cond (begins capped parents k) (adds r (group capped parents n k)) 0) (λ k. heads k + adds (λ j. cond (begins capped parents k) (others k j) 0) all) 0 n (λ k a b. one k) in
     let apart = adds_both heads (λ k. adds (λ j. cond (begins capped parents k) (others k j) 0) all) all in

@@ -7,21 +7,21 @@ use Rattle.std.proofs.lemmas.List.Concat.{get_or-flat_map, length-flat_map}
 use Rattle.fku_types.specs.declared.points.Point.{Point}
 use Rattle.plane_geom.specs.Rings.{origin}
 use Rattle.section_core.specs.Parts.{Spot, ContourParts, SectionParts, Parts}
-use Rattle.correspondence.specs.Outlines.{point_at, layer, layer_at, section_at}
+use Rattle.correspondence.specs.Outlines.{spot_point, layer, layer_at, section_at}
 use Rattle.section_pairs.specs.Rings.{rings_at, vertices_in, first_vertex}
 use Rattle.surface_core.specs.Surfaces.{points_in}
 use Rattle.section_pairs.proofs.RingIds.{EachId, oriented_each}
 use Rattle.ring_caps.proofs.Flat.{AtHeight}
 
 -- ---- the points of a section
-spots_high : (z : ℤ) (spots : List Spot) → All (λ (p : Point). p.z ≡ z) (map (point_at z) spots)
+spots_high : (z : ℤ) (spots : List Spot) → All (λ (p : Point). p.z ≡ z) (map (spot_point z) spots)
 spots_high z [] = All-nil (λ (p : Point). p.z ≡ z)
-spots_high z (s ∷ spots) = All-cons (λ (p : Point). p.z ≡ z) (point_at z s) (map (point_at z) spots) refl (spots_high z spots)
+spots_high z (s ∷ spots) = All-cons (λ (p : Point). p.z ≡ z) (spot_point z s) (map (spot_point z) spots) refl (spots_high z spots)
 
-contours_high : (z : ℤ) (contours : List ContourParts) → All (λ (p : Point). p.z ≡ z) (flat_map (λ (o : List Point). o) (map (λ (c : ContourParts). map (point_at z) c.points) contours))
+contours_high : (z : ℤ) (contours : List ContourParts) → All (λ (p : Point). p.z ≡ z) (flat_map (λ (o : List Point). o) (map (λ (c : ContourParts). map (spot_point z) c.points) contours))
 contours_high z [] = All-nil (λ (p : Point). p.z ≡ z)
 contours_high z (c ∷ contours) =
-    All-append (λ (p : Point). p.z ≡ z) (map (point_at z) c.points) (flat_map (λ (o : List Point). o) (map (λ (d : ContourParts). map (point_at z) d.points) contours)) (spots_high z c.points) (contours_high z contours)
+    All-append (λ (p : Point). p.z ≡ z) (map (spot_point z) c.points) (flat_map (λ (o : List Point). o) (map (λ (d : ContourParts). map (spot_point z) d.points) contours)) (spots_high z c.points) (contours_high z contours)
 
 points_length : (secs : List SectionParts) → length (flat_map points_in secs) ≡ sum_by vertices_in secs
 points_length [] = refl

@@ -11,7 +11,7 @@ use Rattle.plane_geom.specs.declared.ring.Ring.{Ring}
 use Rattle.plane_geom.specs.RingViews.{ring_view, ring_views}
 use Rattle.ring_polygons.proofs.Joining.{few_rings}
 use Rattle.section_pairs.specs.Rings.{AreSectionRings}
-use Rattle.surface_core.specs.Marks.{AreMarks}
+use Rattle.surface_core.specs.Marks.{AreSetAt}
 use Rattle.section_pairs.proofs.Picks.{sizes_are}
 use Rattle.ring_caps.specs.Groups.{parent, parents, begins, group, groups, is_capped, side_groups}
 use Rattle.ring_caps.specs.Held.{capped_by, parent_by, IsGroup}
@@ -24,7 +24,7 @@ pub record Held (outlines : List (List Point)) (rings : List Ring) (held : List 
   pub limits : AreSectionRings rings
   pub count : length rings ≡ length outlines
   pub families : held ≡ parents outlines
-  pub marks : AreMarks joined (length rings) places
+  pub marks : AreSetAt joined (length rings) places
 
 pub few_contours : (outlines : List (List Point)) (rings : List Ring) (held : List (Option ℕ)) → AreSectionRings rings → length rings ≡ length outlines → held ≡ parents outlines → length held ≤ MAX_CONTOURS
 few_contours outlines rings held limits count families = omega (arith, held_count outlines held families, count, few_rings rings limits.each, limits.few)

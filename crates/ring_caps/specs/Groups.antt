@@ -32,13 +32,13 @@ abbrev pub begins : (ℕ → Bool) → (ℕ → Option ℕ) → ℕ → Bool
 begins capped parents k = capped k && not (parent_passes capped (parents k))
 
 -- contour j has a cap and belongs to the group that its parent, contour k, begins
-abbrev pub goes_on : (ℕ → Bool) → (ℕ → Option ℕ) → ℕ → ℕ → Bool
-goes_on capped parents k j = capped j && parent_passes (λ i. i == k) (parents j)
+abbrev pub joins_group : (ℕ → Bool) → (ℕ → Option ℕ) → ℕ → ℕ → Bool
+joins_group capped parents k j = capped j && parent_passes (λ i. i == k) (parents j)
 
 -- the group that contour k of n begins, by places: itself, and the contours with a cap whose parent it is, in file
 -- order
 abbrev pub group : (ℕ → Bool) → (ℕ → Option ℕ) → ℕ → ℕ → List ℕ
-group capped parents n k = k ∷ filter (goes_on capped parents k) (range_with_len 0 n)
+group capped parents n k = k ∷ filter (joins_group capped parents k) (range_with_len 0 n)
 
 -- the groups of n contours, in the file order of the contours that begin them
 abbrev pub groups : (ℕ → Bool) → (ℕ → Option ℕ) → ℕ → List (List ℕ)

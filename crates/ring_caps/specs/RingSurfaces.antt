@@ -40,8 +40,8 @@ abbrev pub groups_folded : List RingView → List (List ℕ) → ℕ
 groups_folded rings gs = sum_by (λ (g : List ℕ). group_folded (pick rings g)) gs
 
 -- a section's bottom caps, then its top caps, and how many of their triangles are folded
-abbrev pub both_caps : List (List Point) → List RingView → List PairParts → ℕ → List (List ℕ)
-both_caps outlines rings ps s =
+abbrev pub both_group_caps : List (List Point) → List RingView → List PairParts → ℕ → List (List ℕ)
+both_group_caps outlines rings ps s =
     ring_caps_on Below rings (groups_on Below outlines ps s) ++ ring_caps_on Above rings (groups_on Above outlines ps s)
 
 abbrev pub both_folded : List (List Point) → List RingView → List PairParts → ℕ → ℕ

@@ -13,7 +13,7 @@ ghost use Rattle.ring_polygons.specs.declared.faces.Face.{Face};
 ghost use Rattle.surface_core.specs.Surfaces.{joined_on};
 ghost use Rattle.ring_caps.specs.GroupCaps.{group_cap, group_folded};
 ghost use Rattle.ring_caps.specs.Groups.{parents};
-ghost use Rattle.ring_caps.specs.RingSurfaces.{ring_tops, groups_folded, both_caps, both_folded, by_group, group_size, side_sizes, face_sizes, both_sizes, group_sizes, HasLongGroup};
+ghost use Rattle.ring_caps.specs.RingSurfaces.{ring_tops, groups_folded, both_group_caps, both_folded, by_group, group_size, side_sizes, face_sizes, both_sizes, group_sizes, HasLongGroup};
 ghost use Rattle.ring_caps.specs.Held.{lists, IsGroup, AreFaceCaps, AreGroupCaps};
 
 use crate::group_caps::cap_group;
@@ -157,7 +157,7 @@ pub fn section_caps(
         (joined_on face (map pair_parts pairs.now) place) }
     ensures triangles { IfOk result (λ l.
         l.triangles.items
-        ≡ both_caps (point_lists section.now) (ring_views rings.now) (map pair_parts pairs.now) place) }
+        ≡ both_group_caps (point_lists section.now) (ring_views rings.now) (map pair_parts pairs.now) place) }
     ensures folded { IfOk result (λ l.
         l.folded ≡ both_folded (point_lists section.now) (ring_views rings.now) (map pair_parts pairs.now) place) }
     ensures short { IfOk result (λ _.

@@ -3,7 +3,7 @@ ghost use Rattle.std.specs.Prelude.{◌≡◌, ◌<◌, ◌≤◌, ◌%◌, ◌=
 ghost use Rattle.std.specs.List.{range_with_len};
 ghost use Rattle.correspondence.specs.Contours.{AreOutlines, points_of, point_lists};
 ghost use Rattle.correspondence.specs.Nesting.{depth, depths};
-ghost use Rattle.ring_caps.specs.Groups.{is_around, parent, parents, begins, goes_on, group, groups};
+ghost use Rattle.ring_caps.specs.Groups.{is_around, parent, parents, begins, joins_group, group, groups};
 ghost use Rattle.ring_caps.specs.Held.{capped_by, parent_by, AreThere, lists};
 
 use correspondence::{depths, lies_in};
@@ -107,7 +107,7 @@ fn begins(parents: &[Option<usize>], joined: &[bool], place: usize) -> bool
 fn goes_on(parents: &[Option<usize>], joined: &[bool], head: usize, place: usize) -> bool
     requires place { place < length parents.now }
     requires same { length joined.now ≡ length parents.now }
-    ensures { result ≡ goes_on (capped_by joined.now) (parent_by parents.now) head place }
+    ensures { result ≡ joins_group (capped_by joined.now) (parent_by parents.now) head place }
 {
     if joined[place] {
         return false;
@@ -132,7 +132,7 @@ fn add_place(
     ensures { OnOk result
         (places.new.items
         ≡ places.old.items
-        ++ (if goes_on (capped_by joined.now) (parent_by parents.now) head place then place ∷ [] else [])) }
+        ++ (if joins_group (capped_by joined.now) (parent_by parents.now) head place then place ∷ [] else [])) }
 {
     if goes_on(parents, joined, head, place) {
         places.push(place as u32)?;

@@ -7,7 +7,7 @@ use Rattle.std.proofs.lemmas.Bool.{cases_lt, lt-ltb, le-ltb, cond-true, cond-fal
 use Rattle.fku_types.specs.declared.points.Point.{Point}
 use Rattle.plane_geom.specs.Lengths.{distance_square}
 use Rattle.plane_geom.specs.Rings.{RingView}
-use Rattle.ring_polygons.specs.Composites.{no_view, point_at, view_at, first_least, nearest_vertex, ring_square, nearest_ring, bridge_square, bridge_place, Bridge, least_bridge, join, bridged, join_others, composite, ids_of}
+use Rattle.ring_polygons.specs.Composites.{no_view, ring_point_at, view_at, first_least, nearest_vertex, ring_square, nearest_ring, bridge_square, bridge_place, Bridge, least_bridge, join, bridged, join_others, composite, ids_of}
 use Rattle.ring_polygons.specs.Bridges.{IsLeastBridge, IsJoinedTo, IsCompositeOf}
 use Rattle.ring_polygons.specs.Bridges.IsJoinedTo.{none_left, joins}
 use Rattle.std.specs.List.{AllByRecursion}
@@ -73,11 +73,11 @@ unfolding least_bridge
 least_bridge_ends ring others r o some =
     let p : ℕ = bridge_place ring others in
     let place = first_least_is (bridge_square ring others) (length ring.points) (omega (arith, r.same, r.enough)) in
-    let at : Point = point_at ring p in
+    let at : Point = ring_point_at ring p in
     let other = first_least_is (λ (c : ℕ). ring_square at (view_at others c)) (length others) some in
     let c : RingView = view_at others (nearest_ring at others) in
     let k : IsRingView c = view_get others (nearest_ring at others) o other.below in
-    let vertex = first_least_is (λ (v : ℕ). distance_square at (point_at c v)) (length c.points) (omega (arith, k.same, k.enough)) in
+    let vertex = first_least_is (λ (v : ℕ). distance_square at (ring_point_at c v)) (length c.points) (omega (arith, k.same, k.enough)) in
     record { place = place.below; other = other.below; vertex = vertex.below }
 
 pub join-length : {X : Type 0} (xs ys : List X) (p v : ℕ) → p < length xs → v < length ys → length (join xs ys p v) ≡ length xs + length ys + 2
@@ -158,11 +158,11 @@ pub least_bridge_is : (ring : RingView) (others : List RingView) → IsRingView 
 unfolding least_bridge
 least_bridge_is ring others r o some =
     let i : ℕ = bridge_place ring others in
-    let at : ℕ → Point = point_at ring in
+    let at : ℕ → Point = ring_point_at ring in
     let by_place : FirstLeast (bridge_square ring others) (length ring.points) i = first_least_is (bridge_square ring others) (length ring.points) (omega (arith, r.same, r.enough)) in
     let by_ring : (p : ℕ) → FirstLeast (λ (c : ℕ). ring_square (at p) (view_at others c)) (length others) (nearest_ring (at p) others) = λ p. first_least_is (λ (c : ℕ). ring_square (at p) (view_at others c)) (length others) some in
-    let by_vertex : (p c : ℕ) → c < length others → FirstLeast (λ (v : ℕ). distance_square (at p) (point_at (view_at others c) v)) (length (view_at others c).points) (nearest_vertex (at p) (view_at others c)) =
-    λ p c l. let k : IsRingView (view_at others c) = view_get others c o l in first_least_is (λ (v : ℕ). distance_square (at p) (point_at (view_at others c) v)) (length (view_at others c).points) (omega (arith, k.same, k.enough)) in
+    let by_vertex : (p c : ℕ) → c < length others → FirstLeast (λ (v : ℕ). distance_square (at p) (ring_point_at (view_at others c) v)) (length (view_at others c).points) (nearest_vertex (at p) (view_at others c)) =
+    λ p c l. let k : IsRingView (view_at others c) = view_get others c o l in first_least_is (λ (v : ℕ). distance_square (at p) (ring_point_at (view_at others c) v)) (length (view_at others c).points) (omega (arith, k.same, k.enough)) in
     let c₀ : ℕ = nearest_ring (at i) others in
     record {
       place = by_place.below;

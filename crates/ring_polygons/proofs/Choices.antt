@@ -7,7 +7,7 @@ use Rattle.plane_geom.specs.Rings.{RingView}
 use Rattle.plane_geom.specs.RingViews.{ring_view, ring_views, IsContour}
 use Rattle.ring_polygons.specs.declared.bridges.Near.{Near}
 use Rattle.ring_polygons.specs.Composites.{Bridge, view_at, least_bridge, join}
-use Rattle.ring_polygons.specs.Nearest.{IsNearest, near_at, AreNearest, IsFirstLeast, IsExtended}
+use Rattle.ring_polygons.specs.Nearest.{IsNearest, near_at, AreNearest, IsFirstNearest, IsExtended}
 use Rattle.ring_polygons.proofs.BridgeLaws.{IsRingView, least_bridge_is}
 use Rattle.ring_polygons.proofs.Nearest.{view_read}
 use Rattle.ring_polygons.proofs.NearestLaws.{first_is_least, one_least, join_extends}
@@ -21,9 +21,9 @@ pub record Choice (ring other : Ring) (others : List Ring) (k : ℕ) (near : Nea
   pub bridge : least_bridge (ring_view ring) (ring_views others) ≡ record { place = near.place; other = k; vertex = near.vertex }
 
 pub choice : (ring other : Ring) (others : List Ring) (nears seen : List Near) (k : ℕ) (near : Near) → All IsContour others → 3 ≤ length ring.points.items → AreNearest ring.points.items (ring_views others) nears →
-    seen ≡ nears → IsFirstLeast seen k → near ≡ get_or nears k near → other ≡ get_or others k other → Choice ring other others k near
+    seen ≡ nears → IsFirstNearest seen k → near ≡ get_or nears k near → other ≡ get_or others k other → Choice ring other others k near
 choice ring other others nears seen k near contours enough h e f n o =
-    let first : IsFirstLeast nears k = subst (λ (l : List Near). IsFirstLeast l k) e f in
+    let first : IsFirstNearest nears k = subst (λ (l : List Near). IsFirstNearest l k) e f in
     let size : length nears ≡ length others = h.same ∙ length-map others ring_view in
     let there : k < length others = omega (arith, first.there, size) in
     let read : view_at (ring_views others) k ≡ ring_view other = view_read others k other there o in

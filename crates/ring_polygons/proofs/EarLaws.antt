@@ -13,7 +13,7 @@ use Rattle.plane_geom.specs.Planes.{side, side_of}
 use Rattle.ring_polygons.specs.declared.twins.Twins.{Twins}
 use Rattle.ring_polygons.specs.declared.twins.Twins.TheVariants.{Hinder, Pass}
 use Rattle.ring_polygons.specs.Caps.{corner, cut, sign_of, is_within, same_point, is_twin, pass, hinders, is_ear, ear_place, ear_places, places_by, cap_by}
-use Rattle.ring_polygons.specs.Ears.{before, after, point_at, IsWithin, IsTwin, CanHinder, IsEar, IsCutNext, IsCutBy}
+use Rattle.ring_polygons.specs.Ears.{place_before, place_after, point_at, IsInTriangle, IsTwin, CanHinder, IsEar, IsCutNext, IsCutBy}
 use Rattle.ring_polygons.specs.Ears.IsCutNext.{first_ear, no_ear}
 use Rattle.ring_polygons.specs.Ears.IsCutBy.{last, next}
 use Rattle.ring_polygons.proofs.Ranges.{all_pass, one_passes, First, first_or_none, first_found, none_found}
@@ -31,7 +31,7 @@ positive x h = omega (arith, ints)
 positive_test : (x : ℤ) → pos 0 <ℤ x → int_lt (pos 0) x ≡ true
 positive_test x h = sym (let k : true ≡ int_lt (pos 0) x = omega (arith, ints) in k)
 
-within_is : (s : ℤ) (a b c p : Point) → is_within s a b c p ≡ true → IsWithin s a b c p
+within_is : (s : ℤ) (a b c p : Point) → is_within s a b c p ≡ true → IsInTriangle s a b c p
 within_is s a b c p h =
     let x : Bool = int_le (pos 0) (s *ℤ side a b p) in
     let y : Bool = int_le (pos 0) (s *ℤ side b c p) in
@@ -44,7 +44,7 @@ within_is s a b c p h =
       third = not_negative (s *ℤ side c a p) two.1;
     }
 
-within_test : (s : ℤ) (a b c p : Point) → IsWithin s a b c p → is_within s a b c p ≡ true
+within_test : (s : ℤ) (a b c p : Point) → IsInTriangle s a b c p → is_within s a b c p ≡ true
 within_test s a b c p h =
     let x : Bool = int_le (pos 0) (s *ℤ side a b p) in
     let y : Bool = int_le (pos 0) (s *ℤ side b c p) in
@@ -86,9 +86,9 @@ twin_is : (ring : List Point) (t k : ℕ) → is_twin ring t k ≡ true → IsTw
 twin_is ring t k h =
     let n : ℕ = length ring in
     let p : Point = point_at ring k in
-    let a : Point = point_at ring (before n t) in
+    let a : Point = point_at ring (place_before n t) in
     let b : Point = point_at ring t in
-    let c : Point = point_at ring (after n t) in
+    let c : Point = point_at ring (place_after n t) in
     elim (or_cases (same_point p a || same_point p b) (same_point p c) h) [
       | inl u ↦ elim (or_cases (same_point p a) (same_point p b) u) [ inl e ↦ inl (one_point p a e) | inr e ↦ inr (inl (one_point p b e)) ]
       | inr e ↦ inr (inr (one_point p c e))
@@ -98,17 +98,17 @@ twin_test : (ring : List Point) (t k : ℕ) → IsTwin ring t k → is_twin ring
 twin_test ring t k (inl e) =
     let n : ℕ = length ring in
     let p : Point = point_at ring k in
-    or_left (same_point p (point_at ring (before n t)) || same_point p (point_at ring t)) (same_point p (point_at ring (after n t)))
-    (or_left (same_point p (point_at ring (before n t))) (same_point p (point_at ring t)) (same_test p (point_at ring (before n t)) e))
+    or_left (same_point p (point_at ring (place_before n t)) || same_point p (point_at ring t)) (same_point p (point_at ring (place_after n t)))
+    (or_left (same_point p (point_at ring (place_before n t))) (same_point p (point_at ring t)) (same_test p (point_at ring (place_before n t)) e))
 twin_test ring t k (inr (inl e)) =
     let n : ℕ = length ring in
     let p : Point = point_at ring k in
-    or_left (same_point p (point_at ring (before n t)) || same_point p (point_at ring t)) (same_point p (point_at ring (after n t)))
-    (or_right (same_point p (point_at ring (before n t))) (same_point p (point_at ring t)) (same_test p (point_at ring t) e))
+    or_left (same_point p (point_at ring (place_before n t)) || same_point p (point_at ring t)) (same_point p (point_at ring (place_after n t)))
+    (or_right (same_point p (point_at ring (place_before n t))) (same_point p (point_at ring t)) (same_test p (point_at ring t) e))
 twin_test ring t k (inr (inr e)) =
     let n : ℕ = length ring in
     let p : Point = point_at ring k in
-    or_right (same_point p (point_at ring (before n t)) || same_point p (point_at ring t)) (same_point p (point_at ring (after n t))) (same_test p (point_at ring (after n t)) e)
+    or_right (same_point p (point_at ring (place_before n t)) || same_point p (point_at ring t)) (same_point p (point_at ring (place_after n t))) (same_test p (point_at ring (place_after n t)) e)
 
 -- a vertex is passed exactly if it is a twin and twins are passed
 not_passed : (w : Twins) (ring : List Point) (t k : ℕ) → not (pass w && is_twin ring t k) ≡ true → w ≡ Pass → IsTwin ring t k → ⊥
@@ -127,17 +127,17 @@ not_passed_test Pass ring t k h =
 -- ---- vertices that block an ear
 -- the vertex at place k lies in the closed triangle of the corner at place t
 abbrev in_corner : ℤ → List Point → ℕ → ℕ → Bool
-in_corner s ring t k = is_within s (point_at ring (before (length ring) t)) (point_at ring t) (point_at ring (after (length ring) t)) (point_at ring k)
+in_corner s ring t k = is_within s (point_at ring (place_before (length ring) t)) (point_at ring t) (point_at ring (place_after (length ring) t)) (point_at ring k)
 
 abbrev InCorner : ℤ → List Point → ℕ → ℕ → Type 0
-InCorner s ring t k = IsWithin s (point_at ring (before (length ring) t)) (point_at ring t) (point_at ring (after (length ring) t)) (point_at ring k)
+InCorner s ring t k = IsInTriangle s (point_at ring (place_before (length ring) t)) (point_at ring t) (point_at ring (place_after (length ring) t)) (point_at ring k)
 
 -- the vertex at place k blocks by the test exactly if it does by the rule
 hinders_is : (w : Twins) (s : ℤ) (ring : List Point) (t k : ℕ) → k < length ring → hinders w s ring t k ≡ true → CanHinder w ring t k × InCorner s ring t k
 hinders_is w s ring t k l h =
     let n : ℕ = length ring in
-    let a : ℕ = before n t in
-    let c : ℕ = after n t in
+    let a : ℕ = place_before n t in
+    let c : ℕ = place_after n t in
     let x : Bool = k == a in
     let y : Bool = k == t in
     let z : Bool = k == c in
@@ -159,8 +159,8 @@ hinders_is w s ring t k l h =
 hinders_test : (w : Twins) (s : ℤ) (ring : List Point) (t k : ℕ) → CanHinder w ring t k → InCorner s ring t k → hinders w s ring t k ≡ true
 hinders_test w s ring t k h within =
     let n : ℕ = length ring in
-    let a : ℕ = before n t in
-    let c : ℕ = after n t in
+    let a : ℕ = place_before n t in
+    let c : ℕ = place_after n t in
     let other : Bool = not ((k == a) || (k == t) || (k == c)) in
     and_from (other && in_corner s ring t k) (not (pass w && is_twin ring t k))
     (and_from other (in_corner s ring t k) (none_of_test k a t c h.not_before h.not_at h.not_after) (within_test s (point_at ring a) (point_at ring t) (point_at ring c) (point_at ring k) within))

@@ -4,7 +4,7 @@ use Rattle.std.specs.Prelude.{if◌then◌else◌, nat_lt}
 use Rattle.std.proofs.lemmas.Bool.{cases_eq, cases_lt, cond-true, cond-false, ne_eqb, lt-ltb, le-ltb}
 use Rattle.std.proofs.lemmas.List.Edits.{get_or-remove_below, get_or-remove_above}
 use Rattle.std.proofs.Math.Nat.{mod-eq_of_lt, add-mod_right}
-use Rattle.ring_polygons.specs.Ears.{before, after}
+use Rattle.ring_polygons.specs.Ears.{place_before, place_after}
 use Rattle.ring_polygons.specs.States.{moved_place}
 
 -- where the vertex at place i stood before the one at place p was removed
@@ -56,20 +56,20 @@ moved_below n p k l b ne = elim (cases_lt p k) [
 ]
 
 -- ---- the places before and after
-before_is : (n t : ℕ) → t < n → ((t ≡ 0) × (before n t + 1 ≡ n)) ⊎ (before n t + 1 ≡ t)
+before_is : (n t : ℕ) → t < n → ((t ≡ 0) × (place_before n t + 1 ≡ n)) ⊎ (place_before n t + 1 ≡ t)
 before_is n t l = elim (cases_lt 0 t) [
   | inl h ↦
       let back : t + n - 1 ≡ t - 1 + n = omega arith in
-      let e : before n t ≡ t - 1 = ap (λ (i : ℕ). i % n) back ∙ add-mod_right (t - 1) n ∙ mod-eq_of_lt (omega arith) in
+      let e : place_before n t ≡ t - 1 = ap (λ (i : ℕ). i % n) back ∙ add-mod_right (t - 1) n ∙ mod-eq_of_lt (omega arith) in
       inr (omega (arith, e))
   | inr h ↦
       let zero : t ≡ 0 = omega arith in
       let back : t + n - 1 ≡ n - 1 = omega arith in
-      let e : before n t ≡ n - 1 = ap (λ (i : ℕ). i % n) back ∙ mod-eq_of_lt (omega arith) in
+      let e : place_before n t ≡ n - 1 = ap (λ (i : ℕ). i % n) back ∙ mod-eq_of_lt (omega arith) in
       inl (zero, omega (arith, e))
 ]
 
-after_is : (n t : ℕ) → t < n → ((t + 1 ≡ n) × (after n t ≡ 0)) ⊎ ((t + 1 < n) × (after n t ≡ t + 1))
+after_is : (n t : ℕ) → t < n → ((t + 1 ≡ n) × (place_after n t ≡ 0)) ⊎ ((t + 1 < n) × (place_after n t ≡ t + 1))
 after_is n t l = elim (cases_lt (t + 1) n) [
   | inl h ↦ inr (h, mod-eq_of_lt h)
   | inr h ↦
@@ -78,38 +78,38 @@ after_is n t l = elim (cases_lt (t + 1) n) [
 ]
 
 -- except at the corner after the gap, the place before stays the place before
-pub up_before : (n p t : ℕ) → p < n → 2 ≤ n → t < n - 1 → up p t ≢ after n p → up p (before (n - 1) t) ≡ before n (up p t)
+pub up_before : (n p t : ℕ) → p < n → 2 ≤ n → t < n - 1 → up p t ≢ place_after n p → up p (place_before (n - 1) t) ≡ place_before n (up p t)
 up_before n p t l two b ne =
     let there : up p t < n = up_below n p t b in
     let at = up_is p t in
-    let to = up_is p (before (n - 1) t) in
+    let to = up_is p (place_before (n - 1) t) in
     let old = before_is n (up p t) there in
     let new = before_is (n - 1) t b in
     let other = after_is n p l in
     split at to old new other
   where
     split : ((t < p) × (up p t ≡ t)) ⊎ ((p ≤ t) × (up p t ≡ t + 1)) →
-        ((before (n - 1) t < p) × (up p (before (n - 1) t) ≡ before (n - 1) t)) ⊎ ((p ≤ before (n - 1) t) × (up p (before (n - 1) t) ≡ before (n - 1) t + 1)) →
-        ((up p t ≡ 0) × (before n (up p t) + 1 ≡ n)) ⊎ (before n (up p t) + 1 ≡ up p t) →
-        ((t ≡ 0) × (before (n - 1) t + 1 ≡ n - 1)) ⊎ (before (n - 1) t + 1 ≡ t) →
-        ((p + 1 ≡ n) × (after n p ≡ 0)) ⊎ ((p + 1 < n) × (after n p ≡ p + 1)) →
-        up p (before (n - 1) t) ≡ before n (up p t)
+        ((place_before (n - 1) t < p) × (up p (place_before (n - 1) t) ≡ place_before (n - 1) t)) ⊎ ((p ≤ place_before (n - 1) t) × (up p (place_before (n - 1) t) ≡ place_before (n - 1) t + 1)) →
+        ((up p t ≡ 0) × (place_before n (up p t) + 1 ≡ n)) ⊎ (place_before n (up p t) + 1 ≡ up p t) →
+        ((t ≡ 0) × (place_before (n - 1) t + 1 ≡ n - 1)) ⊎ (place_before (n - 1) t + 1 ≡ t) →
+        ((p + 1 ≡ n) × (place_after n p ≡ 0)) ⊎ ((p + 1 < n) × (place_after n p ≡ p + 1)) →
+        up p (place_before (n - 1) t) ≡ place_before n (up p t)
     split at to old new other = grind arith
 
-pub up_after : (n p t : ℕ) → p < n → 2 ≤ n → t < n - 1 → up p t ≢ before n p → up p (after (n - 1) t) ≡ after n (up p t)
+pub up_after : (n p t : ℕ) → p < n → 2 ≤ n → t < n - 1 → up p t ≢ place_before n p → up p (place_after (n - 1) t) ≡ place_after n (up p t)
 up_after n p t l two b ne =
     let there : up p t < n = up_below n p t b in
     let at = up_is p t in
-    let to = up_is p (after (n - 1) t) in
+    let to = up_is p (place_after (n - 1) t) in
     let old = after_is n (up p t) there in
     let new = after_is (n - 1) t b in
     let other = before_is n p l in
     split at to old new other
   where
     split : ((t < p) × (up p t ≡ t)) ⊎ ((p ≤ t) × (up p t ≡ t + 1)) →
-        ((after (n - 1) t < p) × (up p (after (n - 1) t) ≡ after (n - 1) t)) ⊎ ((p ≤ after (n - 1) t) × (up p (after (n - 1) t) ≡ after (n - 1) t + 1)) →
-        ((up p t + 1 ≡ n) × (after n (up p t) ≡ 0)) ⊎ ((up p t + 1 < n) × (after n (up p t) ≡ up p t + 1)) →
-        ((t + 1 ≡ n - 1) × (after (n - 1) t ≡ 0)) ⊎ ((t + 1 < n - 1) × (after (n - 1) t ≡ t + 1)) →
-        ((p ≡ 0) × (before n p + 1 ≡ n)) ⊎ (before n p + 1 ≡ p) →
-        up p (after (n - 1) t) ≡ after n (up p t)
+        ((place_after (n - 1) t < p) × (up p (place_after (n - 1) t) ≡ place_after (n - 1) t)) ⊎ ((p ≤ place_after (n - 1) t) × (up p (place_after (n - 1) t) ≡ place_after (n - 1) t + 1)) →
+        ((up p t + 1 ≡ n) × (place_after n (up p t) ≡ 0)) ⊎ ((up p t + 1 < n) × (place_after n (up p t) ≡ up p t + 1)) →
+        ((t + 1 ≡ n - 1) × (place_after (n - 1) t ≡ 0)) ⊎ ((t + 1 < n - 1) × (place_after (n - 1) t ≡ t + 1)) →
+        ((p ≡ 0) × (place_before n p + 1 ≡ n)) ⊎ (place_before n p + 1 ≡ p) →
+        up p (place_after (n - 1) t) ≡ place_after n (up p t)
     split at to old new other = grind arith

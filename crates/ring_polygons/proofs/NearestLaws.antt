@@ -9,7 +9,7 @@ use Rattle.plane_geom.specs.Lengths.{distance_square}
 use Rattle.ring_polygons.specs.declared.bridges.Near.{Near}
 use Rattle.ring_polygons.specs.Composites.{Bridge, view_at, no_view, join}
 use Rattle.ring_polygons.specs.Bridges.{IsLeastBridge, square_of}
-use Rattle.ring_polygons.specs.Nearest.{place_of, IsNearest, near_at, AreNearest, IsFirstLeast, IsExtended}
+use Rattle.ring_polygons.specs.Nearest.{place_of, IsNearest, near_at, AreNearest, IsFirstNearest, IsExtended}
 
 -- ---- a ring that is extended
 
@@ -153,7 +153,7 @@ join_extends xs ys p v lp lv =
 
 -- ---- the least of the bridges to each ring
 
-pub first_is_least : (ring : RingView) (others : List RingView) (nears : List Near) (c : ℕ) → AreNearest ring.points others nears → IsFirstLeast nears c →
+pub first_is_least : (ring : RingView) (others : List RingView) (nears : List Near) (c : ℕ) → AreNearest ring.points others nears → IsFirstNearest nears c →
     IsLeastBridge ring others (record { place = (near_at nears c).place; other = c; vertex = (near_at nears c).vertex })
 first_is_least ring others nears c h f =
     let here : c < length others = omega (arith, f.there, h.same) in

@@ -10,8 +10,8 @@ use Rattle.ring_polygons.specs.declared.twins.Twins.{Twins}
 use Rattle.ring_polygons.specs.declared.states.EarState.{EarState}
 use Rattle.ring_polygons.specs.declared.states.EarState.TheVariants.{Open, NotConvex, Hindered}
 use Rattle.ring_polygons.specs.Caps.{corner, is_within, same_point, pass, hinders}
-use Rattle.ring_polygons.specs.Ears.{before, after, point_at}
-use Rattle.ring_polygons.specs.States.{IsTrueOf, AreTrue, state_at, moved_place, moved}
+use Rattle.ring_polygons.specs.Ears.{place_before, place_after, point_at}
+use Rattle.ring_polygons.specs.States.{IsTrueOf, AreTrue, state_at, moved_place, moved_state}
 use Rattle.ring_polygons.proofs.Gaps.{up, read, up_same, up_below, up_moved, moved_below, up_before, up_after}
 
 -- a state that is true of its corner may be kept
@@ -40,14 +40,14 @@ blocks_same w s x x' y y' z z' a a' b b' c c' q q' ex ey ez ea eb ec eq =
 record Same (ring : List Point) (p t : ℕ) : Type 0 where
   there : p < length ring
   size : length (remove ring p) ≡ length ring - 1
-  earlier : up p (before (length (remove ring p)) t) ≡ before (length ring) (up p t)
-  later : up p (after (length (remove ring p)) t) ≡ after (length ring) (up p t)
+  earlier : up p (place_before (length (remove ring p)) t) ≡ place_before (length ring) (up p t)
+  later : up p (place_after (length (remove ring p)) t) ≡ place_after (length ring) (up p t)
 
-same_before : (ring : List Point) (p t : ℕ) → Same ring p t → point_at (remove ring p) (before (length (remove ring p)) t) ≡ point_at ring (before (length ring) (up p t))
-same_before ring p t h = read ring p (before (length (remove ring p)) t) origin h.there ∙ ap (point_at ring) h.earlier
+same_before : (ring : List Point) (p t : ℕ) → Same ring p t → point_at (remove ring p) (place_before (length (remove ring p)) t) ≡ point_at ring (place_before (length ring) (up p t))
+same_before ring p t h = read ring p (place_before (length (remove ring p)) t) origin h.there ∙ ap (point_at ring) h.earlier
 
-same_after : (ring : List Point) (p t : ℕ) → Same ring p t → point_at (remove ring p) (after (length (remove ring p)) t) ≡ point_at ring (after (length ring) (up p t))
-same_after ring p t h = read ring p (after (length (remove ring p)) t) origin h.there ∙ ap (point_at ring) h.later
+same_after : (ring : List Point) (p t : ℕ) → Same ring p t → point_at (remove ring p) (place_after (length (remove ring p)) t) ≡ point_at ring (place_after (length ring) (up p t))
+same_after ring p t h = read ring p (place_after (length (remove ring p)) t) origin h.there ∙ ap (point_at ring) h.later
 
 same_place : (ring : List Point) (p t k i j : ℕ) → up p i ≡ j → (k == i) ≡ (up p k == j)
 same_place ring p t k i j e = up_same p k i ∙ ap (λ (v : ℕ). up p k == v) e
@@ -56,10 +56,10 @@ hinders_same : (w : Twins) (s : ℤ) (ring : List Point) (p t k : ℕ) → Same 
 hinders_same w s ring p t k h =
     let n : ℕ = length ring in
     let m : ℕ = length (remove ring p) in
-    blocks_same w s (k == before m t) (up p k == before n (up p t)) (k == t) (up p k == up p t) (k == after m t) (up p k == after n (up p t))
-    (point_at (remove ring p) (before m t)) (point_at ring (before n (up p t))) (point_at (remove ring p) t) (point_at ring (up p t))
-    (point_at (remove ring p) (after m t)) (point_at ring (after n (up p t))) (point_at (remove ring p) k) (point_at ring (up p k))
-    (same_place ring p t k (before m t) (before n (up p t)) h.earlier) (up_same p k t) (same_place ring p t k (after m t) (after n (up p t)) h.later)
+    blocks_same w s (k == place_before m t) (up p k == place_before n (up p t)) (k == t) (up p k == up p t) (k == place_after m t) (up p k == place_after n (up p t))
+    (point_at (remove ring p) (place_before m t)) (point_at ring (place_before n (up p t))) (point_at (remove ring p) t) (point_at ring (up p t))
+    (point_at (remove ring p) (place_after m t)) (point_at ring (place_after n (up p t))) (point_at (remove ring p) k) (point_at ring (up p k))
+    (same_place ring p t k (place_before m t) (place_before n (up p t)) h.earlier) (up_same p k t) (same_place ring p t k (place_after m t) (place_after n (up p t)) h.later)
     (same_before ring p t h) (read ring p t origin h.there) (same_after ring p t h) (read ring p k origin h.there)
 
 side_same : (ring : List Point) (p t : ℕ) → Same ring p t → side_of (corner origin (remove ring p) t) ≡ side_of (corner origin ring (up p t))
@@ -67,12 +67,12 @@ side_same ring p t h =
     let n : ℕ = length ring in
     let m : ℕ = length (remove ring p) in
     let shorter : List Point = remove ring p in
-    ap (λ (v : Point). side v (point_at shorter t) (point_at shorter (after m t))) (same_before ring p t h)
-    ∙ ap (λ (v : Point). side (point_at ring (before n (up p t))) v (point_at shorter (after m t))) (read ring p t origin h.there)
-    ∙ ap (λ (v : Point). side (point_at ring (before n (up p t))) (point_at ring (up p t)) v) (same_after ring p t h)
+    ap (λ (v : Point). side v (point_at shorter t) (point_at shorter (place_after m t))) (same_before ring p t h)
+    ∙ ap (λ (v : Point). side (point_at ring (place_before n (up p t))) v (point_at shorter (place_after m t))) (read ring p t origin h.there)
+    ∙ ap (λ (v : Point). side (point_at ring (place_before n (up p t))) (point_at ring (up p t)) v) (same_after ring p t h)
 
 -- so what is known of it stays known, unless it is that the removed vertex blocks it
-moved_true : (w : Twins) (s : ℤ) (ring : List Point) (p t : ℕ) (state : EarState) → Same ring p t → IsTrueOf w s ring (up p t) state → IsTrueOf w s (remove ring p) t (moved p state)
+moved_true : (w : Twins) (s : ℤ) (ring : List Point) (p t : ℕ) (state : EarState) → Same ring p t → IsTrueOf w s ring (up p t) state → IsTrueOf w s (remove ring p) t (moved_state p state)
 moved_true w s ring p t (Open from) h known = tt
 moved_true w s ring p t NotConvex h known = ap (λ (a : ℤ). int_lt (pos 0) (s *ℤ a)) (side_same ring p t h) ∙ known
 moved_true w s ring p t (Hindered k) h known =
@@ -86,25 +86,25 @@ moved_true w s ring p t (Hindered k) h known =
     ]
 
 -- ---- a corner is cut off
-same_corner : (ring : List Point) (p t : ℕ) → p < length ring → 3 < length ring → t < length ring - 1 → up p t ≢ before (length ring) p → up p t ≢ after (length ring) p → Same ring p t
+same_corner : (ring : List Point) (p t : ℕ) → p < length ring → 3 < length ring → t < length ring - 1 → up p t ≢ place_before (length ring) p → up p t ≢ place_after (length ring) p → Same ring p t
 same_corner ring p t l more b nb na =
     let n : ℕ = length ring in
     let size : length (remove ring p) ≡ n - 1 = omega (arith, length-remove ring p l) in
     record {
       there = l;
       size = size;
-      earlier = ap (λ (m : ℕ). up p (before m t)) size ∙ up_before n p t l (omega arith) b na;
-      later = ap (λ (m : ℕ). up p (after m t)) size ∙ up_after n p t l (omega arith) b nb;
+      earlier = ap (λ (m : ℕ). up p (place_before m t)) size ∙ up_before n p t l (omega arith) b na;
+      later = ap (λ (m : ℕ). up p (place_after m t)) size ∙ up_after n p t l (omega arith) b nb;
     }
 
 -- what is known of each after the corner at place p is cut off: nothing of its neighbours
 abbrev pub after_cut : List EarState → ℕ → List EarState
-after_cut states p = set (set (map (moved p) states) (before (length states) p) (Open 0)) (after (length states) p) (Open 0)
+after_cut states p = set (set (map (moved_state p) states) (place_before (length states) p) (Open 0)) (place_after (length states) p) (Open 0)
 
 length_after : (states : List EarState) (p : ℕ) → length (after_cut states p) ≡ length states
 length_after states p =
-    let first : List EarState = set (map (moved p) states) (before (length states) p) (Open 0) in
-    omega (arith, length-set first (after (length states) p) (Open 0), length-set (map (moved p) states) (before (length states) p) (Open 0), length-map states (moved p))
+    let first : List EarState = set (map (moved_state p) states) (place_before (length states) p) (Open 0) in
+    omega (arith, length-set first (place_after (length states) p) (Open 0), length-set (map (moved_state p) states) (place_before (length states) p) (Open 0), length-map states (moved_state p))
 
 pub cut_true : (w : Twins) (s : ℤ) (ring : List Point) (states : List EarState) (p : ℕ) → p < length ring → 3 < length ring → AreTrue w s ring states → AreTrue w s (remove ring p) (remove (after_cut states p) p)
 cut_true w s ring states p l more h = record {
@@ -116,13 +116,13 @@ cut_true w s ring states p l more h = record {
     n = length ring
 
     b : ℕ
-    b = before (length states) p
+    b = place_before (length states) p
 
     a : ℕ
-    a = after (length states) p
+    a = place_after (length states) p
 
     first : List EarState
-    first = set (map (moved p) states) b (Open 0)
+    first = set (map (moved_state p) states) b (Open 0)
 
     after' : List EarState
     after' = after_cut states p
@@ -134,17 +134,17 @@ cut_true w s ring states p l more h = record {
     there i c = omega (arith, h.one_each)
 
     open_after : (i : ℕ) → i < n → i ≡ a → state_at after' i ≡ Open 0
-    open_after i c e = ap (state_at after') e ∙ get_or-set_same first a (Open 0) (Open 0) (omega (arith, length-set (map (moved p) states) b (Open 0), length-map states (moved p), h.one_each, e))
+    open_after i c e = ap (state_at after') e ∙ get_or-set_same first a (Open 0) (Open 0) (omega (arith, length-set (map (moved_state p) states) b (Open 0), length-map states (moved_state p), h.one_each, e))
 
     open_before : (i : ℕ) → i < n → i ≡ b → i ≢ a → state_at after' i ≡ Open 0
     open_before i c e ne =
         get_or-set_other first a i (Open 0) (Open 0) ne ∙ ap (state_at first) e
-        ∙ get_or-set_same (map (moved p) states) b (Open 0) (Open 0) (omega (arith, length-map states (moved p), h.one_each, e))
+        ∙ get_or-set_same (map (moved_state p) states) b (Open 0) (Open 0) (omega (arith, length-map states (moved_state p), h.one_each, e))
 
-    kept : (i : ℕ) → i < n → i ≢ b → i ≢ a → state_at after' i ≡ moved p (state_at states i)
+    kept : (i : ℕ) → i < n → i ≢ b → i ≢ a → state_at after' i ≡ moved_state p (state_at states i)
     kept i c nb na =
-        get_or-set_other first a i (Open 0) (Open 0) na ∙ get_or-set_other (map (moved p) states) b i (Open 0) (Open 0) nb
-        ∙ get_or-map (moved p) states i (Open 0) (Open 0) (there i c)
+        get_or-set_other first a i (Open 0) (Open 0) na ∙ get_or-set_other (map (moved_state p) states) b i (Open 0) (Open 0) nb
+        ∙ get_or-map (moved_state p) states i (Open 0) (Open 0) (there i c)
 
     each : (t : ℕ) → t < length (remove ring p) → IsTrueOf w s (remove ring p) t (state_at (remove after' p) t)
     each t c =
@@ -159,7 +159,7 @@ cut_true w s ring states p l more h = record {
           | inr na ↦ elim (cases_eq i b) [
             | inl e ↦ is (Open 0) (open_before i below e na) tt
             | inr nb ↦
-                let same : Same ring p t = same_corner ring p t l more low (λ e. nb (e ∙ ap (λ (m : ℕ). before m p) (sym h.one_each))) (λ e. na (e ∙ ap (λ (m : ℕ). after m p) (sym h.one_each))) in
-                is (moved p (state_at states i)) (kept i below nb na) (moved_true w s ring p t (state_at states i) same (h.each i below))
+                let same : Same ring p t = same_corner ring p t l more low (λ e. nb (e ∙ ap (λ (m : ℕ). place_before m p) (sym h.one_each))) (λ e. na (e ∙ ap (λ (m : ℕ). place_after m p) (sym h.one_each))) in
+                is (moved_state p (state_at states i)) (kept i below nb na) (moved_true w s ring p t (state_at states i) same (h.each i below))
           ]
         ]

@@ -2,11 +2,11 @@
 use Rattle.std.specs.Prelude.{◌≡◌, ℕ, ◌<◌, ◌≤◌, List, [], ◌∷◌, length, remove}
 use Rattle.plane_geom.specs.Rings.{RingView}
 use Rattle.plane_geom.specs.Lengths.{distance_square}
-use Rattle.ring_polygons.specs.Composites.{point_at, view_at, Bridge, bridged}
+use Rattle.ring_polygons.specs.Composites.{ring_point_at, view_at, Bridge, bridged}
 
 -- the squared length of a bridge from place p of a ring to vertex v of ring c
 abbrev pub square_of : RingView → List RingView → ℕ → ℕ → ℕ → ℕ
-square_of ring others p c v = distance_square (point_at ring p) (point_at (view_at others c) v)
+square_of ring others p c v = distance_square (ring_point_at ring p) (ring_point_at (view_at others c) v)
 
 -- the least bridge, by its squared length, then by place, ring and vertex
 pub record IsLeastBridge (ring : RingView) (others : List RingView) (b : Bridge) : Type 0 where

@@ -8,8 +8,8 @@ abbrev pub no_view : RingView
 no_view = record { points = []; ids = [] }
 
 -- the point of a ring at a place, and the ring of a list at a place
-abbrev pub point_at : RingView → ℕ → Point
-point_at ring k = slice_index_or ring.points k origin
+abbrev pub ring_point_at : RingView → ℕ → Point
+ring_point_at ring k = slice_index_or ring.points k origin
 
 abbrev pub view_at : List RingView → ℕ → RingView
 view_at rings c = slice_index_or rings c no_view
@@ -21,17 +21,18 @@ first_least f (suc n) = if nat_lt (f n) (f (first_least f n)) then n else first_
 
 -- the vertex of a ring that is nearest to a point, its squared distance, and the ring whose nearest vertex is nearest
 abbrev pub nearest_vertex : Point → RingView → ℕ
-nearest_vertex p ring = first_least (λ v. distance_square p (point_at ring v)) (length ring.points)
+nearest_vertex p ring = first_least (λ v. distance_square p (ring_point_at ring v)) (length ring.points)
 
 abbrev pub ring_square : Point → RingView → ℕ
-ring_square p ring = distance_square p (point_at ring (nearest_vertex p ring))
+ring_square p ring = distance_square p (ring_point_at ring (nearest_vertex p ring))
 
 abbrev pub nearest_ring : Point → List RingView → ℕ
 nearest_ring p rings = first_least (λ c. ring_square p (view_at rings c)) (length rings)
 
 -- the place of a ring that is nearest to a vertex of the other rings
 abbrev pub bridge_square : RingView → List RingView → ℕ → ℕ
-bridge_square ring others p = ring_square (point_at ring p) (view_at others (nearest_ring (point_at ring p) others))
+bridge_square ring others p = ring_square (ring_point_at ring p)
+    (view_at others (nearest_ring (ring_point_at ring p) others))
 
 abbrev pub bridge_place : RingView → List RingView → ℕ
 bridge_place ring others = first_least (bridge_square ring others) (length ring.points)
@@ -46,8 +47,8 @@ pub record Bridge : Type 0 where
 unfoldable pub least_bridge : RingView → List RingView → Bridge
 least_bridge ring others =
     let p = bridge_place ring others in
-    let c = nearest_ring (point_at ring p) others in
-    record { place = p; other = c; vertex = nearest_vertex (point_at ring p) (view_at others c) }
+    let c = nearest_ring (ring_point_at ring p) others in
+    record { place = p; other = c; vertex = nearest_vertex (ring_point_at ring p) (view_at others c) }
 
 -- a list up to place p, then once round another list from its place v and back to it, then on from place p
 abbrev pub join : {X : Type 0} → List X → List X → ℕ → ℕ → List X

@@ -32,7 +32,7 @@ pub record AreNearest (ring : List Point) (others : List RingView) (nears : List
   pub each : (c : ℕ) → c < length others → IsNearest ring (view_at others c).points (near_at nears c)
 
 -- the first of some bridges that is least by its squared length, then by place
-pub record IsFirstLeast (nears : List Near) (c : ℕ) : Type 0 where
+pub record IsFirstNearest (nears : List Near) (c : ℕ) : Type 0 where
   pub there : c < length nears
   pub least : (k : ℕ) → k < length nears → (near_at nears c).square ≤ (near_at nears k).square
   pub place : (k : ℕ) → k < length nears → (near_at nears k).square ≡ (near_at nears c).square

@@ -28,7 +28,7 @@ abbrev pub moved_place : ℕ → ℕ → ℕ
 moved_place p k = if nat_lt p k then k - 1 else k
 
 -- what is known of a corner after the vertex at place p is removed, which is not one of the corner's own
-abbrev pub moved : ℕ → EarState → EarState
-moved p (Open from) = Open (moved_place p from)
-moved p NotConvex = NotConvex
-moved p (Hindered k) = if k == p then Open k else Hindered (moved_place p k)
+abbrev pub moved_state : ℕ → EarState → EarState
+moved_state p (Open from) = Open (moved_place p from)
+moved_state p NotConvex = NotConvex
+moved_state p (Hindered k) = if k == p then Open k else Hindered (moved_place p k)

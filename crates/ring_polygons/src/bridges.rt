@@ -7,7 +7,7 @@ ghost use Rattle.plane_geom.specs.Rings.{origin};
 ghost use Rattle.plane_geom.specs.Lengths.{distance_square};
 ghost use Rattle.plane_geom.specs.RingViews.{ring_views, IsContour};
 ghost use Rattle.ring_polygons.specs.Composites.{first_least};
-ghost use Rattle.ring_polygons.specs.Nearest.{IsNearest, near_at, AreNearest, IsFirstLeast, IsExtended};
+ghost use Rattle.ring_polygons.specs.Nearest.{IsNearest, near_at, AreNearest, IsFirstNearest, IsExtended};
 
 use crate::extents::Extent;
 use fku_types::{NoMemory, Point};
@@ -109,7 +109,7 @@ fn precedes(one: Near, other: Near) -> bool
 /// The ring to which the bridge is least.
 pub fn first_of(nears: &[Near]) -> usize
     requires { 0 < length nears.now }
-    ensures { IsFirstLeast nears.now result }
+    ensures { IsFirstNearest nears.now result }
 {
     let mut least = 0;
     for c in 0..nears.len() {

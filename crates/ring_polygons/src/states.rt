@@ -3,7 +3,7 @@
 ghost use Rattle.std.specs.Prelude.{◌≡◌, ◌<◌, ℤ, List, length, map, remove};
 ghost use Rattle.fku_types.specs.declared.points.Point.{Point};
 ghost use Rattle.ring_polygons.specs.declared.twins.Twins.{Twins};
-ghost use Rattle.ring_polygons.specs.States.{AreTrue, moved};
+ghost use Rattle.ring_polygons.specs.States.{AreTrue, moved_state};
 
 use crate::ears::{after_place, before_place};
 
@@ -20,7 +20,7 @@ pub enum EarState {
 
 /// What is known of a corner after the vertex at a place is removed, which is not one of the corner's own.
 fn moved(place: usize, state: EarState) -> EarState
-    ensures { result ≡ moved place state }
+    ensures { result ≡ moved_state place state }
 {
     match state {
         EarState::Open(from) => EarState::Open(if from > place { from - 1 } else { from }),
@@ -37,7 +37,7 @@ fn moved(place: usize, state: EarState) -> EarState
 
 /// The same for each corner.
 fn move_each(states: &mut [EarState], place: usize)
-    ensures { states.new ≡ map (moved place) states.old }
+    ensures { states.new ≡ map (moved_state place) states.old }
 {
     for state in states.iter_mut() {
         *state = moved(place, *state);

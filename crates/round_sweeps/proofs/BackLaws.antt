@@ -3,13 +3,13 @@ use Rattle.std.proofs.Common.{true, false, ◌≡◌, ◌≢◌, ℕ, ◌+◌, �
 use Rattle.std.proofs.lemmas.Bool.{cases_lt, cases_eq}
 use Rattle.std.proofs.lemmas.List.{get_or_append_left, get_or-append-add}
 use Rattle.std.proofs.lemmas.Int.{ints}
-use Rattle.round_sweeps.specs.Columns.{start_limit, value_limit, at_row, IsBounded}
+use Rattle.round_sweeps.specs.Columns.{start_limit, value_limit, at_row, AreRowsBounded}
 use Rattle.round_sweeps.specs.Searches.{gone, way_of, numbers_from, AreSumsOf, IsWindow, IsBackTo, IsBackColumn}
 use Rattle.round_sweeps.proofs.ColumnLaws.{written, kept}
 use Rattle.round_sweeps.proofs.RoundLaws.{row_low, row_high, row_higher}
 
 -- no number of a potential is too small
-pub number_least : (m : ℕ) (s : ℤ) (i : ℕ) (column : List ℤ) → i < m → IsBounded m column → pos 0 ≤ℤ s → (k : ℕ) → k < 2 * m → neg_ℤ start_limit ≤ℤ numbers_from m s i column k
+pub number_least : (m : ℕ) (s : ℤ) (i : ℕ) (column : List ℤ) → i < m → AreRowsBounded m column → pos 0 ≤ℤ s → (k : ℕ) → k < 2 * m → neg_ℤ start_limit ≤ℤ numbers_from m s i column k
 number_least m s i column lt b least k le =
     elim (cases_lt (i + k) m) [
       | inl low ↦ omega (arith, ints, row_low m s (at_row column) (i + k) low, b.least (i + k) low)

@@ -9,7 +9,7 @@ use Rattle.strip_graph.specs.Words.{Arcs, count_v, word_cost, HasLetters}
 use Rattle.strip_graph.specs.Feasible.{IsForward, IsRowPeriodic, AreTurnBounds, lifted, lifted_row}
 use Rattle.strip_graph.proofs.WordLaws.{Periodic, word_cost-at, word_cost-row}
 use Rattle.strip_graph.proofs.FeasibleRounds.{forward_of_round}
-use Rattle.round_sweeps.specs.Columns.{at_row, table_at, IsBounded, AreColumnCosts}
+use Rattle.round_sweeps.specs.Columns.{at_row, table_at, AreRowsBounded, AreColumnCosts}
 use Rattle.round_sweeps.specs.Tables.{IsTable}
 use Rattle.round_sweeps.specs.Searches.{gone, AreSumsOf, numbers_from, downs_from, rights_from, IsBackColumn}
 use Rattle.round_sweeps.specs.Bands.{IsBand, ended_cost}
@@ -49,13 +49,13 @@ band_more a x phi i h n c limit ends numbers downs rights old new ways f of righ
     omega (arith, ints, low, right k, b.right k (omega arith) (omega (arith, in')) (omega (arith, ints, p, low, right k, of.numbers_are k (omega (arith, in')))))
 
 -- both, by the columns of a strip
-pub banded_first : (a : Arcs) (m n : ℕ) (s : ℤ) (i h : ℕ) (limit : ℤ) (table : List ℤ) (downs rights free : ℕ → ℤ) (old new : List ℤ) (ways : List Bool) → IsRowPeriodic a m → IsTable a m n s table → AreColumnCosts a m n downs rights → i < m → h < 2 * m → pos 0 ≤ℤ s → IsBounded m (drop (n * m) table) → ((r : ℕ) → free r ≡ pos 0)
+pub banded_first : (a : Arcs) (m n : ℕ) (s : ℤ) (i h : ℕ) (limit : ℤ) (table : List ℤ) (downs rights free : ℕ → ℤ) (old new : List ℤ) (ways : List Bool) → IsRowPeriodic a m → IsTable a m n s table → AreColumnCosts a m n downs rights → i < m → h < 2 * m → pos 0 ≤ℤ s → AreRowsBounded m (drop (n * m) table) → ((r : ℕ) → free r ≡ pos 0)
     → IsBackColumn h limit (numbers_from m s i (take m (drop (n * m) table))) (downs_from m i downs) (rights_from m i free) old new ways → IsBand a (lifted m s (table_at m table)) i h n limit n (at_row old) (at_row new)
 banded_first a m n s i h limit table downs rights free old new ways p t costs lt low least b none back =
     band_first a (lifted_row m s t.start) (lifted m s (table_at m table)) i h n limit (numbers_from m s i (take m (drop (n * m) table))) (downs_from m i downs) (rights_from m i free) old new ways (forward_of_round a m n s t.start (table_at m table) p (omega (arith, lt)) t.potential)
     (of_column a m h n s i table (take m (drop (n * m) table)) downs rights p costs lt low least (bounded_take m (drop (n * m) table) b) (λ r less. column_at m n (n * m) m table r refl (omega arith) less)) (λ k. none ((i + k) % m)) back
 
-pub banded_more : (a : Arcs) (m n c k : ℕ) (s : ℤ) (i h : ℕ) (limit : ℤ) (table : List ℤ) (downs rights downs' rights' ends : ℕ → ℤ) (old new : List ℤ) (ways : List Bool) → k ≡ c + 1 → IsRowPeriodic a m → IsTable a m n s table → AreColumnCosts a m c downs rights → AreColumnCosts a m (c + 1) downs' rights' → i < m → h < 2 * m → c < n → pos 0 ≤ℤ s → IsBounded m (drop (c * m) table)
+pub banded_more : (a : Arcs) (m n c k : ℕ) (s : ℤ) (i h : ℕ) (limit : ℤ) (table : List ℤ) (downs rights downs' rights' ends : ℕ → ℤ) (old new : List ℤ) (ways : List Bool) → k ≡ c + 1 → IsRowPeriodic a m → IsTable a m n s table → AreColumnCosts a m c downs rights → AreColumnCosts a m (c + 1) downs' rights' → i < m → h < 2 * m → c < n → pos 0 ≤ℤ s → AreRowsBounded m (drop (c * m) table)
     → IsBand a (lifted m s (table_at m table)) i h n limit k ends (at_row old) → IsBackColumn h limit (numbers_from m s i (take m (drop (c * m) table))) (downs_from m i downs) (rights_from m i rights') old new ways → IsBand a (lifted m s (table_at m table)) i h n limit c ends (at_row new)
 banded_more a m n c k s i h limit table downs rights downs' rights' ends old new ways e p t here next lt low less least b done back =
     band_more a (lifted_row m s t.start) (lifted m s (table_at m table)) i h n c limit ends (numbers_from m s i (take m (drop (c * m) table))) (downs_from m i downs) (rights_from m i rights') old new ways (forward_of_round a m n s t.start (table_at m table) p (omega (arith, lt)) t.potential)
@@ -121,7 +121,7 @@ fit_more m at xs v h lt fits r less = elim (cases_eq r at) [
 pub first_at : (m : ℕ) (table : List ℤ) (r : ℕ) → r < m → at_row (take m table) r ≡ table_at m table r 0
 first_at m table r lt = get_or-take m table r (pos 0) lt ∙ zeroth m table r
 
-pub first_bounded : (m : ℕ) (table : List ℤ) → IsBounded m (drop (0 * m) table) → IsBounded m (take m table)
+pub first_bounded : (m : ℕ) (table : List ℤ) → AreRowsBounded m (drop (0 * m) table) → AreRowsBounded m (take m table)
 first_bounded m table b = record {
   least = λ r lt. omega (arith, ints, first_at m table r lt, get_or-drop (0 * m) table r (pos 0), b.least r lt);
   most = λ r lt. omega (arith, ints, first_at m table r lt, get_or-drop (0 * m) table r (pos 0), b.most r lt);

@@ -7,7 +7,7 @@ use Rattle.strip_graph.specs.declared.tilings.Step.{Step}
 use Rattle.strip_graph.specs.declared.tilings.Step.TheVariants.{V, H}
 use Rattle.strip_graph.specs.Words.{Arcs}
 use Rattle.strip_graph.specs.Feasible.{IsRowPeriodic, lifted}
-use Rattle.round_sweeps.specs.Columns.{start_limit, value_limit, at_row, table_at, IsBounded, AreColumnCosts}
+use Rattle.round_sweeps.specs.Columns.{start_limit, value_limit, at_row, table_at, AreRowsBounded, AreColumnCosts}
 use Rattle.round_sweeps.specs.Searches.{way_of, way_at, numbers_from, downs_from, rights_from, IsWindow, IsBackColumn, IsSearchedTo, IsMet}
 use Rattle.round_sweeps.proofs.BackLaws.{number_least}
 use Rattle.round_sweeps.proofs.RoundLaws.{row_low}
@@ -59,7 +59,7 @@ downs_least a m c downs rights h r lt =
 pub rights_least : (a : Arcs) (m c : ℕ) (downs rights : ℕ → ℤ) → AreColumnCosts a m (c + 1) downs rights → (r : ℕ) → r < m → pos 0 ≤ℤ rights r
 rights_least a m c downs rights h r lt = omega (arith, ints, h.right r c lt (omega arith))
 
-pub of_column : (a : Arcs) (m h c : ℕ) (s : ℤ) (i : ℕ) (table column : List ℤ) (downs rights : ℕ → ℤ) → IsRowPeriodic a m → AreColumnCosts a m c downs rights → i < m → h < 2 * m → pos 0 ≤ℤ s → IsBounded m column → ((r : ℕ) → r < m → at_row column r ≡ table_at m table r c)
+pub of_column : (a : Arcs) (m h c : ℕ) (s : ℤ) (i : ℕ) (table column : List ℤ) (downs rights : ℕ → ℤ) → IsRowPeriodic a m → AreColumnCosts a m c downs rights → i < m → h < 2 * m → pos 0 ≤ℤ s → AreRowsBounded m column → ((r : ℕ) → r < m → at_row column r ≡ table_at m table r c)
     → AreOfColumn a (lifted m s (table_at m table)) i h c (numbers_from m s i column) (downs_from m i downs)
 of_column a m h c s i table column downs rights p costs lt low least b same = record {
   numbers_are = λ k le. numbers_at m c s i table column (omega (arith, lt)) same k;
@@ -67,14 +67,14 @@ of_column a m h c s i table column downs rights p costs lt low least b same = re
   downs_are = λ k less. downs_at a m c i downs rights p costs lt k;
 }
 
-pub bounded_take : (m : ℕ) (xs : List ℤ) → IsBounded m xs → IsBounded m (take m xs)
+pub bounded_take : (m : ℕ) (xs : List ℤ) → AreRowsBounded m xs → AreRowsBounded m (take m xs)
 bounded_take m xs b = record {
   least = λ r lt. omega (arith, ints, b.least r lt, get_or-take m xs r (pos 0) lt);
   most = λ r lt. omega (arith, ints, b.most r lt, get_or-take m xs r (pos 0) lt);
 }
 
 -- a column more of a search back
-pub searched_back : (a : Arcs) (m n c0 : ℕ) (s : ℤ) (i : ℕ) (limit : ℤ) (table : List ℤ) (downs rights downs' rights' : ℕ → ℤ) (old new : List ℤ) (ways ways' : List Bool) → IsRowPeriodic a m → AreColumnCosts a m c0 downs rights → AreColumnCosts a m (c0 + 1) downs' rights' → i < m → c0 < n → pos 0 ≤ℤ s → IsBounded m (drop (c0 * m) table)
+pub searched_back : (a : Arcs) (m n c0 : ℕ) (s : ℤ) (i : ℕ) (limit : ℤ) (table : List ℤ) (downs rights downs' rights' : ℕ → ℤ) (old new : List ℤ) (ways ways' : List Bool) → IsRowPeriodic a m → AreColumnCosts a m c0 downs rights → AreColumnCosts a m (c0 + 1) downs' rights' → i < m → c0 < n → pos 0 ≤ℤ s → AreRowsBounded m (drop (c0 * m) table)
     → IsSearchedTo a (lifted m s (table_at m table)) i m n limit (c0 + 1) old ways → IsBackColumn m limit (numbers_from m s i (take m (drop (c0 * m) table))) (downs_from m i downs) (rights_from m i rights') old new (drop (c0 * (m + 1)) ways') → ((k : ℕ) → (c0 + 1) * (m + 1) ≤ k → way_of ways' k ≡ way_of ways k)
     → IsSearchedTo a (lifted m s (table_at m table)) i m n limit c0 new ways'
 searched_back a m n c0 s i limit table downs rights downs' rights' old new ways ways' p here next lt lt0 least b done h rest =
@@ -85,7 +85,7 @@ searched_back a m n c0 s i limit table downs rights downs' rights' old new ways 
     after k c le more to = rest (c * (m + 1) + k) (let up : c0 + 1 ≤ c = omega (arith, more) in omega (arith, mul-le-mul_right (m + 1) up))
 
 -- the last column
-pub searched_end : (a : Arcs) (m n : ℕ) (s : ℤ) (i : ℕ) (limit : ℤ) (table : List ℤ) (downs rights free : ℕ → ℤ) (old new : List ℤ) (ways' : List Bool) → IsRowPeriodic a m → AreColumnCosts a m n downs rights → i < m → pos 0 ≤ℤ s → limit ≤ℤ value_limit → IsBounded m (drop (n * m) table)
+pub searched_end : (a : Arcs) (m n : ℕ) (s : ℤ) (i : ℕ) (limit : ℤ) (table : List ℤ) (downs rights free : ℕ → ℤ) (old new : List ℤ) (ways' : List Bool) → IsRowPeriodic a m → AreColumnCosts a m n downs rights → i < m → pos 0 ≤ℤ s → limit ≤ℤ value_limit → AreRowsBounded m (drop (n * m) table)
     → IsWindow m m m old → ((r : ℕ) → free r ≡ pos 0) → IsBackColumn m limit (numbers_from m s i (take m (drop (n * m) table))) (downs_from m i downs) (rights_from m i free) old new (drop (n * (m + 1)) ways') → at_row new m ≡ pos 0 → IsSearchedTo a (lifted m s (table_at m table)) i m n limit n new ways'
 searched_end a m n s i limit table downs rights free old new ways' p here lt least small b w none h ended =
     searched_first a (lifted m s (table_at m table)) i m n limit (numbers_from m s i (take m (drop (n * m) table))) (downs_from m i downs) (rights_from m i free) old new (drop (n * (m + 1)) ways') ways'
@@ -103,14 +103,14 @@ met a m n s i limit table sums ways lt h le = record {
     here = (let e : i + 0 ≡ i = omega arith in let d : 0 * m + i ≡ i = omega arith in ap (λ (x : ℕ). lifted m s (table_at m table) x 0) e ∙ row_low m s (λ r. table_at m table r 0) i lt ∙ ap (at_row table) d)
 
 -- the same where the column is written in another way
-pub searched_back_at : (a : Arcs) (m n k c0 : ℕ) (s : ℤ) (i : ℕ) (limit : ℤ) (table : List ℤ) (downs rights downs' rights' : ℕ → ℤ) (old new : List ℤ) (ways ways' : List Bool) → k ≡ c0 + 1 → IsRowPeriodic a m → AreColumnCosts a m c0 downs rights → AreColumnCosts a m (c0 + 1) downs' rights' → i < m → c0 < n → pos 0 ≤ℤ s → IsBounded m (drop (c0 * m) table)
+pub searched_back_at : (a : Arcs) (m n k c0 : ℕ) (s : ℤ) (i : ℕ) (limit : ℤ) (table : List ℤ) (downs rights downs' rights' : ℕ → ℤ) (old new : List ℤ) (ways ways' : List Bool) → k ≡ c0 + 1 → IsRowPeriodic a m → AreColumnCosts a m c0 downs rights → AreColumnCosts a m (c0 + 1) downs' rights' → i < m → c0 < n → pos 0 ≤ℤ s → AreRowsBounded m (drop (c0 * m) table)
     → IsSearchedTo a (lifted m s (table_at m table)) i m n limit k old ways → IsBackColumn m limit (numbers_from m s i (take m (drop (c0 * m) table))) (downs_from m i downs) (rights_from m i rights') old new (drop (c0 * (m + 1)) ways') → ((k : ℕ) → (c0 + 1) * (m + 1) ≤ k → way_of ways' k ≡ way_of ways k)
     → IsSearchedTo a (lifted m s (table_at m table)) i m n limit c0 new ways'
 searched_back_at a m n k c0 s i limit table downs rights downs' rights' old new ways ways' e p here next lt lt0 least b done =
     searched_back a m n c0 s i limit table downs rights downs' rights' old new ways ways' p here next lt lt0 least b (subst (λ (x : ℕ). IsSearchedTo a (lifted m s (table_at m table)) i m n limit x old ways) e done)
 
 -- the number of a row in column 0
-pub first_number : (m i : ℕ) (table : List ℤ) → i < m → IsBounded m (drop (0 * m) table) → (neg_ℤ start_limit ≤ℤ at_row table i) × (at_row table i ≤ℤ value_limit)
+pub first_number : (m i : ℕ) (table : List ℤ) → i < m → AreRowsBounded m (drop (0 * m) table) → (neg_ℤ start_limit ≤ℤ at_row table i) × (at_row table i ≤ℤ value_limit)
 first_number m i table lt b =
     let z : 0 * m + i ≡ i = omega arith in
     let e : at_row (drop (0 * m) table) i ≡ at_row table i = get_or-drop (0 * m) table i (pos 0) ∙ ap (at_row table) z in

@@ -3,7 +3,7 @@ use Rattle.std.proofs.Common.{◌≡◌, ℕ, ◌+◌, ◌*◌, ◌≤◌, min, 
 use Rattle.std.proofs.lemmas.Int.{ints}
 use Rattle.fku_types.specs.declared.points.Point.{Point}
 use Rattle.fku_types.specs.Points.{square}
-use Rattle.plane_geom.specs.Planes.{cross}
+use Rattle.plane_geom.specs.Planes.{cross_product}
 use Rattle.plane_geom.proofs.Signed.{passed_i64}
 use Rattle.strip_graph.specs.declared.areas.Edge.{Edge}
 use Rattle.strip_graph.specs.Edges.{IsEdge}
@@ -36,16 +36,16 @@ edge_counted e t a b z h ex ey et le most = record {
   where
     area : (p : TileEnd) (q : Point) → p.x ≡ q.x → p.y ≡ q.y → q.z ≡ z → tile_area t p ≤ area_square a b q
     area p q px py qz =
-        let side : cross t.x t.y p.x p.y -ℤ t.turn ≡ cross e.x e.y q.x q.y -ℤ e.turn = ap₂ (λ (x y : ℤ). x -ℤ y) (same_cross _ _ _ _ _ _ _ _ ex ey px py) et in
-        let more = counted_less t.upright e.upright (unsigned_abs (cross e.x e.y q.x q.y -ℤ e.turn)) le in
-        let same : tile_area t p ≡ t.upright + min most_side (unsigned_abs (cross e.x e.y q.x q.y -ℤ e.turn)) * min most_side (unsigned_abs (cross e.x e.y q.x q.y -ℤ e.turn)) =
+        let side : cross_product t.x t.y p.x p.y -ℤ t.turn ≡ cross_product e.x e.y q.x q.y -ℤ e.turn = ap₂ (λ (x y : ℤ). x -ℤ y) (same_cross _ _ _ _ _ _ _ _ ex ey px py) et in
+        let more = counted_less t.upright e.upright (unsigned_abs (cross_product e.x e.y q.x q.y -ℤ e.turn)) le in
+        let same : tile_area t p ≡ t.upright + min most_side (unsigned_abs (cross_product e.x e.y q.x q.y -ℤ e.turn)) * min most_side (unsigned_abs (cross_product e.x e.y q.x q.y -ℤ e.turn)) =
         ap (λ (s : ℤ). t.upright + min most_side (unsigned_abs s) * min most_side (unsigned_abs s)) side in
         omega (arith, same, more, h.area q qz)
 
 -- the side of a point as the code computes it
 side_read : (e : TileEdge) (p : TileEnd) (k : ℤ) → FitsEdge e → unsigned_abs p.x ≤ 999999 → unsigned_abs p.y ≤ 999999 → unsigned_abs k ≤ 8000000000000
-    → k ≡ cross (to_z w64 (of_z w64 e.x)) (to_z w64 (of_z w64 e.y)) (to_z w64 (of_z w64 p.x)) (to_z w64 (of_z w64 p.y))
-    → to_z w64 (of_z w64 (to_z w64 (of_z w64 k) -ℤ to_z w64 (of_z w64 e.turn))) ≡ cross e.x e.y p.x p.y -ℤ e.turn
+    → k ≡ cross_product (to_z w64 (of_z w64 e.x)) (to_z w64 (of_z w64 e.y)) (to_z w64 (of_z w64 p.x)) (to_z w64 (of_z w64 p.y))
+    → to_z w64 (of_z w64 (to_z w64 (of_z w64 k) -ℤ to_z w64 (of_z w64 e.turn))) ≡ cross_product e.x e.y p.x p.y -ℤ e.turn
 side_read e p k f hx hy small is =
     let x = passed_i64 e.x (omega (arith, f.x)) in
     let y = passed_i64 e.y (omega (arith, f.y)) in
@@ -60,7 +60,7 @@ side_read e p k f hx hy small is =
 
 -- what is counted as the code computes it
 pub area_read : (e : TileEdge) (p : TileEnd) (k : ℤ) (s : ℕ) → FitsEdge e → unsigned_abs p.x ≤ 999999 → unsigned_abs p.y ≤ 999999 → unsigned_abs k ≤ 8000000000000
-    → k ≡ cross (to_z w64 (of_z w64 e.x)) (to_z w64 (of_z w64 e.y)) (to_z w64 (of_z w64 p.x)) (to_z w64 (of_z w64 p.y))
+    → k ≡ cross_product (to_z w64 (of_z w64 e.x)) (to_z w64 (of_z w64 e.y)) (to_z w64 (of_z w64 p.x)) (to_z w64 (of_z w64 p.y))
     → s ≡ min most_side (unsigned_abs (to_z w64 (of_z w64 (to_z w64 (of_z w64 k) -ℤ to_z w64 (of_z w64 e.turn)))))
     → e.upright + s * s ≡ tile_area e p
 area_read e p k s f hx hy small is counted =

@@ -40,16 +40,17 @@ pub record IsWindow (m first last : ℕ) (sums : List ℤ) : Type 0 where
 
 -- rows k to m of a column are searched: `old` has the sums of the next column, and `new` those of this one, in the rows
 -- below k still those of the next one
-pub record IsBackTo (m k : ℕ) (limit : ℤ) (phi downs rights : ℕ → ℤ) (old new : List ℤ) (ways : List Bool) : Type 0 where
-  pub rest : (j : ℕ) → j < k → at_row new j ≡ at_row old j
-  pub down : (j : ℕ) → k ≤ j → j < m → (phi j +ℤ (downs j +ℤ at_row new (j + 1))) ≤ℤ limit
-      → at_row new j ≤ℤ (downs j +ℤ at_row new (j + 1))
-  pub right : (j : ℕ) → k ≤ j → j ≤ m → (phi j +ℤ (rights j +ℤ at_row old j)) ≤ℤ limit
-      → at_row new j ≤ℤ (rights j +ℤ at_row old j)
-  pub goes_down : (j : ℕ) → k ≤ j → j ≤ m → (phi j +ℤ at_row new j) ≤ℤ limit → way_of ways j ≡ true
-      → (j < m) × (at_row new j ≡ downs j +ℤ at_row new (j + 1))
-  pub goes_right : (j : ℕ) → k ≤ j → j ≤ m → (phi j +ℤ at_row new j) ≤ℤ limit → way_of ways j ≡ false
-      → (at_row new j ≡ rights j +ℤ at_row old j) × (j < m → at_row new j <ℤ (downs j +ℤ at_row new (j + 1)))
+pub record IsBackTo (m k : ℕ) (limit : ℤ) (phi downs rights : ℕ → ℤ) (old new : List ℤ) (ways : List Bool) : Type 0
+  where
+    pub rest : (j : ℕ) → j < k → at_row new j ≡ at_row old j
+    pub down : (j : ℕ) → k ≤ j → j < m → (phi j +ℤ (downs j +ℤ at_row new (j + 1))) ≤ℤ limit
+        → at_row new j ≤ℤ (downs j +ℤ at_row new (j + 1))
+    pub right : (j : ℕ) → k ≤ j → j ≤ m → (phi j +ℤ (rights j +ℤ at_row old j)) ≤ℤ limit
+        → at_row new j ≤ℤ (rights j +ℤ at_row old j)
+    pub goes_down : (j : ℕ) → k ≤ j → j ≤ m → (phi j +ℤ at_row new j) ≤ℤ limit → way_of ways j ≡ true
+        → (j < m) × (at_row new j ≡ downs j +ℤ at_row new (j + 1))
+    pub goes_right : (j : ℕ) → k ≤ j → j ≤ m → (phi j +ℤ at_row new j) ≤ℤ limit → way_of ways j ≡ false
+        → (at_row new j ≡ rights j +ℤ at_row old j) × (j < m → at_row new j <ℤ (downs j +ℤ at_row new (j + 1)))
 
 -- a whole column is
 abbrev pub IsBackColumn : ℕ → ℤ → (ℕ → ℤ) → (ℕ → ℤ) → (ℕ → ℤ) → List ℤ → List ℤ → List Bool → Type 0

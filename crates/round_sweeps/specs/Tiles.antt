@@ -4,7 +4,7 @@ use Rattle.fku_types.specs.declared.limits.TheConstants.{MAX_DIFFERENCE, MAX_WEI
 use Rattle.fku_types.specs.declared.points.Point.{Point}
 use Rattle.fku_types.specs.declared.rules.CostRule.{CostRule}
 use Rattle.fku_types.specs.Points.{square, IsCoordinate}
-use Rattle.plane_geom.specs.Planes.{cross}
+use Rattle.plane_geom.specs.Planes.{cross_product}
 use Rattle.plane_geom.specs.Rings.{around}
 use Rattle.strip_graph.specs.declared.tilings.Step.{Step}
 use Rattle.strip_graph.specs.declared.tilings.Step.TheVariants.{V, H}
@@ -46,7 +46,7 @@ pub record FitWeights (w : Weights) : Type 0 where
 
 -- the side of an edge on which a point lies, up to the most
 abbrev pub counted_side : TileEdge → TileEnd → ℕ
-counted_side e p = min most_side (unsigned_abs (cross e.x e.y p.x p.y -ℤ e.turn))
+counted_side e p = min most_side (unsigned_abs (cross_product e.x e.y p.x p.y -ℤ e.turn))
 
 -- what is counted of the squared doubled area of the tile of an edge and a point
 abbrev pub tile_area : TileEdge → TileEnd → ℕ

@@ -2,7 +2,7 @@
 ghost use Rattle.std.specs.Prelude.{◌≡◌, ℕ, ◌+◌, ◌-◌, ◌*◌, ◌<◌, ◌≤◌, ◌^◌, ℤ, pos, neg_ℤ, ◌+ℤ◌, ◌-ℤ◌, ◌≤ℤ◌, unsigned_abs, IfSome, OnOk, length, take, drop};
 ghost use Rattle.strip_graph.specs.declared.tilings.Step.{Step};
 ghost use Rattle.strip_graph.specs.Feasible.{IsRowPeriodic, AreTurnBounds, lifted};
-ghost use Rattle.round_sweeps.specs.Columns.{start_limit, value_limit, at_row, table_at, IsBounded};
+ghost use Rattle.round_sweeps.specs.Columns.{start_limit, value_limit, at_row, table_at, AreRowsBounded};
 ghost use Rattle.round_sweeps.specs.Tables.{IsTable};
 ghost use Rattle.round_sweeps.specs.Searches.{gone, numbers_from, downs_from, rights_from, AreSumsOf, IsWindow, IsBackColumn};
 ghost use Rattle.round_sweeps.specs.Bands.{IsBand};
@@ -41,7 +41,7 @@ fn fill_ends(
     requires start { start < length last.now }
     requires few { length last.now ≤ MAX_COMPOSITE_VERTICES }
     requires bounds { length bounds.now ≡ length last.now }
-    requires bounded { IsBounded (length last.now) last.now }
+    requires bounded { AreRowsBounded (length last.now) last.now }
     requires round_least { pos 0 ≤ℤ round }
     requires round_most { round ≤ℤ value_limit }
     requires base { base ≤ℤ start_limit }
@@ -77,7 +77,7 @@ fn band_next<C: ColumnCosts, N: ColumnCosts>(
     requires col { col ≤ MAX_COMPOSITE_VERTICES }
     requires room { (col + 1) * rows ≤ length table.now }
     requires ways { length ways.old ≡ 2 * rows }
-    requires bounded { IsBounded rows (drop (col * rows) table.now) }
+    requires bounded { AreRowsBounded rows (drop (col * rows) table.now) }
     requires round_least { pos 0 ≤ℤ round }
     requires round_most { round ≤ℤ value_limit }
     requires limit_least { pos 0 ≤ℤ limit }
@@ -119,7 +119,7 @@ fn search_band<S: StripColumns>(
     requires few { rows ≤ MAX_COMPOSITE_VERTICES }
     requires few_cols { cols ≤ MAX_COMPOSITE_VERTICES }
     requires room { (cols + 1) * rows ≤ length table.now }
-    requires inside { (c : ℕ) → c ≤ cols → IsBounded rows (drop (c * rows) table.now) }
+    requires inside { (c : ℕ) → c ≤ cols → AreRowsBounded rows (drop (c * rows) table.now) }
     requires periodic { IsRowPeriodic (S.costs costs.now) rows }
     requires potential { IsTable (S.costs costs.now) rows cols round table.now }
     requires round_least { pos 0 ≤ℤ round }
@@ -224,7 +224,7 @@ fn raise_bounds<S: StripColumns>(
     requires few { rows ≤ MAX_COMPOSITE_VERTICES }
     requires few_cols { cols ≤ MAX_COMPOSITE_VERTICES }
     requires room { (cols + 1) * rows ≤ length table.now }
-    requires inside { (c : ℕ) → c ≤ cols → IsBounded rows (drop (c * rows) table.now) }
+    requires inside { (c : ℕ) → c ≤ cols → AreRowsBounded rows (drop (c * rows) table.now) }
     requires periodic { IsRowPeriodic (S.costs costs.now) rows }
     requires periodic_cols { (i j : ℕ) (s : Step) → S.costs costs.now i (j + cols) s ≡ S.costs costs.now i j s }
     requires potential { IsTable (S.costs costs.now) rows cols round table.now }
@@ -292,7 +292,7 @@ pub(crate) fn narrow_bounds<S: StripColumns>(
     requires few { rows ≤ MAX_COMPOSITE_VERTICES }
     requires few_cols { cols ≤ MAX_COMPOSITE_VERTICES }
     requires room { (cols + 1) * rows ≤ length table.now }
-    requires inside { (c : ℕ) → c ≤ cols → IsBounded rows (drop (c * rows) table.now) }
+    requires inside { (c : ℕ) → c ≤ cols → AreRowsBounded rows (drop (c * rows) table.now) }
     requires periodic { IsRowPeriodic (S.costs costs.now) rows }
     requires periodic_cols { (i j : ℕ) (s : Step) → S.costs costs.now i (j + cols) s ≡ S.costs costs.now i j s }
     requires potential { IsTable (S.costs costs.now) rows cols round table.now }

@@ -5,7 +5,7 @@ ghost use Rattle.strip_graph.specs.declared.tilings.Step.TheVariants.{V};
 ghost use Rattle.strip_graph.specs.Words.{word_cost};
 ghost use Rattle.strip_graph.specs.Tilings.{IsChosen};
 ghost use Rattle.strip_graph.specs.Feasible.{IsRowPeriodic, AreTurnBounds};
-ghost use Rattle.round_sweeps.specs.Columns.{start_limit, value_limit, at_row, table_at, IsBounded, IsFirstLeast};
+ghost use Rattle.round_sweeps.specs.Columns.{start_limit, value_limit, at_row, table_at, AreRowsBounded, IsFirstLeastAmong};
 ghost use Rattle.round_sweeps.specs.Starts.{AreRates, AreStarts};
 ghost use Rattle.round_sweeps.specs.Tables.{IsTable};
 
@@ -35,7 +35,7 @@ pub struct Choice {
 // The first row of the least bound.
 fn first_least(bounds: &[i64]) -> usize
     requires { 0 < length bounds.now }
-    ensures { IsFirstLeast (length bounds.now) result bounds.now }
+    ensures { IsFirstLeastAmong (length bounds.now) result bounds.now }
 {
     let mut best = 0;
     for row in 1..bounds.len() {
@@ -91,7 +91,7 @@ pub fn find_turn<S: StripColumns>(
     requires bounds_fit { (r : ℕ) → r < rows → unsigned_abs (at_row bounds.now r) < 2 ^ 63 }
     requires ways { (cols + 1) * (rows + 1) ≤ length ways.old }
     requires sums { length sums.old ≡ rows + 1 }
-    requires inside { (c : ℕ) → c ≤ cols → IsBounded rows (drop (c * rows) table.now) }
+    requires inside { (c : ℕ) → c ≤ cols → AreRowsBounded rows (drop (c * rows) table.now) }
     requires periodic { IsRowPeriodic (S.costs costs.now) rows }
     requires periodic_cols { (i j : ℕ) (s : Step) → S.costs costs.now i (j + cols) s ≡ S.costs costs.now i j s }
     requires potential { IsTable (S.costs costs.now) rows cols round table.now }
@@ -156,7 +156,7 @@ fn fill_table<S: StripColumns>(
     requires round { (r : ℕ) → r + 1 ≡ rows → at_row rates.now 0 ≤ℤ pos (S.costs costs.now r 0 V) }
     requires room { (cols + 1) * rows ≤ length table.old }
     ensures potential { IfSome result (λ s. IsTable (S.costs costs.now) rows cols s table.new) }
-    ensures inside { IfSome result (λ s. (c : ℕ) → c ≤ cols → IsBounded rows (drop (c * rows) table.new)) }
+    ensures inside { IfSome result (λ s. (c : ℕ) → c ≤ cols → AreRowsBounded rows (drop (c * rows) table.new)) }
     ensures round_least { IfSome result (λ s. pos 0 ≤ℤ s) }
     ensures round_most { IfSome result (λ s. s ≤ℤ value_limit) }
 {
@@ -189,7 +189,7 @@ fn choose_ahead<S: StripColumns>(
     requires bounds { length bounds.old ≡ rows }
     requires ways { (cols + 1) * (rows + 1) ≤ length ways.old }
     requires sums { length sums.old ≡ rows + 1 }
-    requires inside { (c : ℕ) → c ≤ cols → IsBounded rows (drop (c * rows) table.now) }
+    requires inside { (c : ℕ) → c ≤ cols → AreRowsBounded rows (drop (c * rows) table.now) }
     requires periodic { IsRowPeriodic (S.costs costs.now) rows }
     requires periodic_cols { (i j : ℕ) (s : Step) → S.costs costs.now i (j + cols) s ≡ S.costs costs.now i j s }
     requires potential { IsTable (S.costs costs.now) rows cols round table.now }
@@ -231,7 +231,7 @@ fn choose_under<S: StripColumns>(
     requires bounds { length bounds.old ≡ rows }
     requires ways { (cols + 1) * (rows + 1) ≤ length ways.old }
     requires sums { length sums.old ≡ rows + 1 }
-    requires inside { (c : ℕ) → c ≤ cols → IsBounded rows (drop (c * rows) table.now) }
+    requires inside { (c : ℕ) → c ≤ cols → AreRowsBounded rows (drop (c * rows) table.now) }
     requires periodic { IsRowPeriodic (S.costs costs.now) rows }
     requires periodic_cols { (i j : ℕ) (s : Step) → S.costs costs.now i (j + cols) s ≡ S.costs costs.now i j s }
     requires potential { IsTable (S.costs costs.now) rows cols round table.now }
@@ -290,7 +290,7 @@ fn choose_narrow<S: StripColumns>(
     requires bounds { length bounds.old ≡ rows }
     requires ways { (cols + 1) * (rows + 1) ≤ length ways.old }
     requires sums { length sums.old ≡ rows + 1 }
-    requires inside { (c : ℕ) → c ≤ cols → IsBounded rows (drop (c * rows) table.now) }
+    requires inside { (c : ℕ) → c ≤ cols → AreRowsBounded rows (drop (c * rows) table.now) }
     requires periodic { IsRowPeriodic (S.costs costs.now) rows }
     requires periodic_cols { (i j : ℕ) (s : Step) → S.costs costs.now i (j + cols) s ≡ S.costs costs.now i j s }
     requires potential { IsTable (S.costs costs.now) rows cols round table.now }

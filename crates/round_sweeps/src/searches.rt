@@ -1,7 +1,7 @@
 //! A search back from the end of a turn, column by column, over the places that a potential leaves.
 ghost use Rattle.std.specs.Prelude.{◌≡◌, ◌⊎◌, ℕ, ◌+◌, ◌-◌, ◌*◌, ◌%◌, ◌<◌, ◌≤◌, ◌^◌, ℤ, pos, neg_ℤ, ◌+ℤ◌, ◌-ℤ◌, ◌≤ℤ◌, ◌<ℤ◌, true, false, IfSome, IsTrue, List, length, drop, take};
 ghost use Rattle.strip_graph.specs.Feasible.{lifted_row};
-ghost use Rattle.round_sweeps.specs.Columns.{cost_limit, start_limit, value_limit, at_row, IsBounded};
+ghost use Rattle.round_sweeps.specs.Columns.{cost_limit, start_limit, value_limit, at_row, AreRowsBounded};
 ghost use Rattle.round_sweeps.specs.Searches.{gone, way_of, numbers_from, downs_from, rights_from, AreSumsOf, IsWindow, IsBackColumn};
 
 use crate::columns::ColumnCosts;
@@ -69,7 +69,7 @@ pub(crate) fn number_at(known: &[i64], row: usize, round: i64) -> i64
     requires some { 0 < length known.now }
     requires few { length known.now ≤ MAX_COMPOSITE_VERTICES }
     requires row { row < 3 * length known.now }
-    requires bounded { IsBounded (length known.now) known.now }
+    requires bounded { AreRowsBounded (length known.now) known.now }
     requires round_least { pos 0 ≤ℤ round }
     requires round_most { round ≤ℤ value_limit }
     ensures value { result ≡ lifted_row (length known.now) round (at_row known.now) row }
@@ -134,7 +134,7 @@ fn search_place<C: ColumnCosts, N: ColumnCosts>(
     requires start { start < length known.now }
     requires few { length known.now ≤ MAX_COMPOSITE_VERTICES }
     requires height { height < 2 * length known.now }
-    requires bounded { IsBounded (length known.now) known.now }
+    requires bounded { AreRowsBounded (length known.now) known.now }
     requires round_least { pos 0 ≤ℤ round }
     requires round_most { round ≤ℤ value_limit }
     requires limit_least { pos 0 ≤ℤ limit }
@@ -220,7 +220,7 @@ pub(crate) fn search_column<C: ColumnCosts, N: ColumnCosts>(
     requires start { start < length known.now }
     requires few { length known.now ≤ MAX_COMPOSITE_VERTICES }
     requires height { height < 2 * length known.now }
-    requires bounded { IsBounded (length known.now) known.now }
+    requires bounded { AreRowsBounded (length known.now) known.now }
     requires round_least { pos 0 ≤ℤ round }
     requires round_most { round ≤ℤ value_limit }
     requires limit_least { pos 0 ≤ℤ limit }

@@ -1,7 +1,7 @@
 //! The first least word of a turn, by a search back over what a potential leaves.
 ghost use Rattle.std.specs.Prelude.{◌≡◌, ℕ, ◌+◌, ◌*◌, ◌<◌, ◌≤◌, ℤ, pos, neg_ℤ, ◌+ℤ◌, ◌≤ℤ◌, IfOk, IsTrue, length, drop, take};
 ghost use Rattle.strip_graph.specs.Feasible.{IsRowPeriodic, lifted};
-ghost use Rattle.round_sweeps.specs.Columns.{start_limit, value_limit, table_at, IsBounded};
+ghost use Rattle.round_sweeps.specs.Columns.{start_limit, value_limit, table_at, AreRowsBounded};
 ghost use Rattle.round_sweeps.specs.Searches.{way_of, way_at, numbers_from, downs_from, rights_from, AreSumsOf, IsWindow, IsBackColumn, IsSearchedTo, IsMet};
 ghost use Rattle.round_sweeps.specs.Searched.{guarded, spell};
 
@@ -46,7 +46,7 @@ fn search_next<C: ColumnCosts, N: ColumnCosts>(
     requires col { col ≤ MAX_COMPOSITE_VERTICES }
     requires room { (col + 1) * rows ≤ length table.now }
     requires ways { (col + 1) * (rows + 1) ≤ length ways.old }
-    requires bounded { IsBounded rows (drop (col * rows) table.now) }
+    requires bounded { AreRowsBounded rows (drop (col * rows) table.now) }
     requires round_least { pos 0 ≤ℤ round }
     requires round_most { round ≤ℤ value_limit }
     requires limit_least { pos 0 ≤ℤ limit }
@@ -102,7 +102,7 @@ fn search_rest<S: StripColumns>(
     requires few_cols { cols ≤ MAX_COMPOSITE_VERTICES }
     requires room { (cols + 1) * rows ≤ length table.now }
     requires ways { (cols + 1) * (rows + 1) ≤ length ways.old }
-    requires bounded { (c : ℕ) → c ≤ cols → IsBounded rows (drop (c * rows) table.now) }
+    requires bounded { (c : ℕ) → c ≤ cols → AreRowsBounded rows (drop (c * rows) table.now) }
     requires periodic { IsRowPeriodic (S.costs costs.now) rows }
     requires round_least { pos 0 ≤ℤ round }
     requires round_most { round ≤ℤ value_limit }
@@ -147,7 +147,7 @@ pub fn search_turn<S: StripColumns>(
     requires room { (cols + 1) * rows ≤ length table.now }
     requires ways { (cols + 1) * (rows + 1) ≤ length ways.old }
     requires sums { length sums.old ≡ rows + 1 }
-    requires bounded { (c : ℕ) → c ≤ cols → IsBounded rows (drop (c * rows) table.now) }
+    requires bounded { (c : ℕ) → c ≤ cols → AreRowsBounded rows (drop (c * rows) table.now) }
     requires periodic { IsRowPeriodic (S.costs costs.now) rows }
     requires round_least { pos 0 ≤ℤ round }
     requires round_most { round ≤ℤ value_limit }

@@ -4,7 +4,7 @@ use Rattle.std.proofs.lemmas.Bool.{cases_lt}
 use Rattle.std.proofs.lemmas.Slice.{take-put_mid}
 use Rattle.std.proofs.lemmas.List.{get_or-take, get_or-drop, length-take-le, get_or_append_left, get_or-append-add, get_or-set_same, get_or-set_other, length-map, map-append, map-set, take-map, drop-map}
 use borrow.Rule.Slice.PartMut.{put_mid}
-use Rattle.row_paths.specs.StripCosts.{AreFirst}
+use Rattle.row_paths.specs.StripCosts.{AreFirstCosts}
 
 -- costs that are kept are not computed
 pub not_both : {A : Type 0} (b : Bool) → IsTrue b → IsFalse b → A
@@ -23,7 +23,7 @@ same_row k r l size lt from to = by (cases_lt k r) (cases_lt r k)
     by (inr ge) (inr ge') = omega arith
 
 -- the costs of one more row
-pub row_more : (b : ℕ) (cost : ℕ → ℕ → ℕ) (size r : ℕ) (xs zs ys : List ℕ) → length xs ≡ r * size → length zs ≡ size → ys ≡ xs ++ zs → ((c : ℕ) → c < size → get_or zs c 0 ≡ cost r c) → ((c : ℕ) → c < size → get_or zs c 0 ≤ b) → AreFirst b cost size xs → AreFirst b cost size ys
+pub row_more : (b : ℕ) (cost : ℕ → ℕ → ℕ) (size r : ℕ) (xs zs ys : List ℕ) → length xs ≡ r * size → length zs ≡ size → ys ≡ xs ++ zs → ((c : ℕ) → c < size → get_or zs c 0 ≡ cost r c) → ((c : ℕ) → c < size → get_or zs c 0 ≤ b) → AreFirstCosts b cost size xs → AreFirstCosts b cost size ys
 row_more b cost size r xs zs ys len few e is small all = record {
   are = λ k l lt within. here k l lt (cases_lt (k * size + l) (length xs)) within;
   small = λ k within. least k (cases_lt k (length xs)) within;
@@ -63,7 +63,7 @@ set_more value P xs i x lt all here k less = subst (λ (l : List ℕ). P k (get_
 
 -- an overwritten row, with the rows before it
 pub row_put : {C : Type 0} (value : C → ℕ) (b : ℕ) (cost : ℕ → ℕ → ℕ) (size r at k : ℕ) (xs zs : List C) → at ≡ r * size → (r + 1) * size ≤ length xs → length zs ≡ size → ((c : ℕ) → c < size → get_or (map value zs) c 0 ≡ cost r c) → ((c : ℕ) → c < size → get_or (map value zs) c 0 ≤ b)
-    → AreFirst b cost size (map value (take (r * size) xs)) → AreFirst b cost size (map value (take ((r + 1) * size) (put_mid at k xs zs)))
+    → AreFirstCosts b cost size (map value (take (r * size) xs)) → AreFirstCosts b cost size (map value (take ((r + 1) * size) (put_mid at k xs zs)))
 row_put value b cost size r at k xs zs is room filled are small all =
     let before : length (take (r * size) xs) ≡ r * size = length-take-le (r * size) xs (omega (arith, room)) in
     let more : take ((r + 1) * size) (put_mid at k xs zs) ≡ take (r * size) xs ++ zs =
@@ -80,7 +80,7 @@ pub record IsPart {C : Type 0} (value : C → ℕ) (b : ℕ) (cost : ℕ → ℕ
   pub are : (c : ℕ) → c < count → get_or (map value list) c 0 ≡ cost (j + c)
   pub small : (c : ℕ) → c < count → get_or (map value list) c 0 ≤ b
 
-pub row_part : {C : Type 0} (value : C → ℕ) (b : ℕ) (cost : ℕ → ℕ → ℕ) (k size t j count at to : ℕ) (xs : List C) → t < k → at ≡ t * size + j → to ≡ t * size + size → j + count ≡ size → length (map value xs) ≡ k * size → AreFirst b cost size (map value xs)
+pub row_part : {C : Type 0} (value : C → ℕ) (b : ℕ) (cost : ℕ → ℕ → ℕ) (k size t j count at to : ℕ) (xs : List C) → t < k → at ≡ t * size + j → to ≡ t * size + size → j + count ≡ size → length (map value xs) ≡ k * size → AreFirstCosts b cost size (map value xs)
     → IsPart value b (cost t) j count (take (to - at) (drop at xs))
 row_part value b cost k size t j count at to xs lt is is' fits len all = record {
   size = length-map (take (to - at) (drop at xs)) value ∙ omega (arith, is, is', length-take-le (to - at) (drop at xs) (omega (arith, is, within, length-drop at xs, length-map xs value)));

@@ -20,18 +20,18 @@ pub record IsRowCosts (b : ℕ) (a : Arcs) (n row : ℕ) (downs rights : List �
   pub rights_small : (c : ℕ) → c < n → slice_index rights c ≤ b
 
 -- the first costs of a table in rows of `size`, none more than b
-pub record AreFirst (b : ℕ) (cost : ℕ → ℕ → ℕ) (size : ℕ) (costs : List ℕ) : Type 0 where
+pub record AreFirstCosts (b : ℕ) (cost : ℕ → ℕ → ℕ) (size : ℕ) (costs : List ℕ) : Type 0 where
   pub are : (r c : ℕ) → c < size → r * size + c < length costs → slice_index costs (r * size + c) ≡ cost r c
   pub small : (k : ℕ) → k < length costs → slice_index costs k ≤ b
 
 -- a table of what V costs in the first m rows, and what H costs
 pub record AreDowns (b : ℕ) (p : Strip) (costs : List ℕ) : Type 0 where
   pub count : length costs ≡ rows p * (cols p + 1)
-  pub first : AreFirst b (λ r c. arcs p r c V) (cols p + 1) costs
+  pub first : AreFirstCosts b (λ r c. arcs p r c V) (cols p + 1) costs
 
 pub record AreRights (b : ℕ) (p : Strip) (costs : List ℕ) : Type 0 where
   pub count : length costs ≡ rows p * cols p
-  pub first : AreFirst b (λ r c. arcs p r c H) (cols p) costs
+  pub first : AreFirstCosts b (λ r c. arcs p r c H) (cols p) costs
 
 -- the costs of H as a table; or, if both steps to a place cost the same, as the costs of V
 abbrev pub AreRightsOf : ℕ → Strip → Option (List ℕ) → Type 0
@@ -49,7 +49,8 @@ pub record AllFit (most most_sum : ℕ) (p : Strip) : Type 0 where
   pub sums : step_cost_limit ≤ largest most_sum p
 
 -- what is known of a strip's costs: that all fit, if they are computed at each reading; else the costs themselves
-pub record AreKnown (computed : Bool) (most most_sum : ℕ) (p : Strip) (downs : List ℕ) (rights : Option (List ℕ)) : Type 0 where
+pub record AreKnown (computed : Bool) (most most_sum : ℕ) (p : Strip) (downs : List ℕ) (rights : Option (List ℕ)) : Type
+    0 where
   pub fit : IsTrue computed → AllFit most most_sum p
   pub kept : IsFalse computed → AreStripCosts (largest most_sum p) p downs rights
 

@@ -4,7 +4,7 @@ ghost use Rattle.strip_graph.specs.Strips.{IsStrip, arcs, rows, cols, step_cost_
 ghost use Rattle.plane_geom.specs.Rings.{IsRing};
 ghost use Rattle.strip_graph.specs.Layouts.{IsByPlace};
 ghost use Rattle.row_paths.specs.Counts.{cost_readings};
-ghost use Rattle.row_paths.specs.StripCosts.{largest, AreFirst};
+ghost use Rattle.row_paths.specs.StripCosts.{largest, AreFirstCosts};
 
 use crate::amounts::{Amount, Cost, Fresh};
 use fku_types::{NoMemory, Steps};
@@ -313,11 +313,11 @@ fn put_row<C: Cost, L: Ledger>(
     requires right { step ≡ Step.H → size ≤ cols from.now.strip }
     requires limit { limit ≤ C.MOST }
     requires room { (from.now.row + 1) * size ≤ length costs.old }
-    requires are { AreFirst (limit) (λ r c. arcs from.now.strip r c step) size
+    requires are { AreFirstCosts (limit) (λ r c. arcs from.now.strip r c step) size
         (map C.value (take (from.now.row * size) costs.old)) }
     ensures count { length costs.new ≡ length costs.old }
     ensures are { IsTrue result
-        → AreFirst (limit) (λ r c. arcs from.now.strip r c step) size
+        → AreFirstCosts (limit) (λ r c. arcs from.now.strip r c step) size
         (map C.value (take ((from.now.row + 1) * size) costs.new)) }
     ensures all { step_cost_limit ≤ limit → IsTrue result }
     ensures steps { steps.new ≤ steps.old + size }
@@ -352,7 +352,7 @@ fn fill_rows<C: Cost, L: Ledger>(
     ensures count { IfOk result (λ all. IsTrue all → length costs.new.items ≡ rows layout.now * size) }
     ensures are { IfOk result (λ all.
         IsTrue all
-        → AreFirst (limit) (λ r c. arcs layout.now r c step) size (map C.value costs.new.items)) }
+        → AreFirstCosts (limit) (λ r c. arcs layout.now r c step) size (map C.value costs.new.items)) }
     ensures all { step_cost_limit ≤ limit → IfOk result IsTrue }
     ensures steps { steps.new ≤ steps.old + rows layout.now * size }
 {

@@ -18,8 +18,8 @@ use Rattle.row_paths.proofs.SolutionLaws.{solves_unique}
 use Rattle.pair_pool.specs.Solvers.{SolvesEach}
 use Rattle.cert_checker.specs.declared.certs.CertText.{CertText}
 use Rattle.cert_checker.specs.declared.certs.Verdict.TheVariants.{Accept}
-use Rattle.cert_checker.specs.CertTexts.{CertParts, cert_text, parts_of}
-use Rattle.cert_checker.specs.CertReading.{IsCertFault, ReadsAs, kept_behind}
+use Rattle.cert_checker.specs.CertTexts.{CertParts, cert_text, certificate_parts}
+use Rattle.cert_checker.specs.CertReading.{IsCertFault, ReadsAsCertificate, kept_behind}
 use Rattle.cert_checker.specs.Verdicts.{IsVerdict}
 use Rattle.cert_checker.proofs.TextLaws.{reads_one}
 use Rattle.section_pairs.specs.Pairs.{PairParts}
@@ -69,7 +69,7 @@ record IsCertified (k : ℕ) (input cert : List ℕ) : Type 0 where
   solves : Solves pair.strip solution
   values : List ℤ
   holds : Certifies (arcs pair.strip) (rows pair.strip) (cols pair.strip) (rows pair.strip) (cols pair.strip) solution.cost solution.row solution.word values
-  reads : (passed : ℕ) → ReadsAs (kept_behind passed cert) (certificate k pair.strip solution values)
+  reads : (passed : ℕ) → ReadsAsCertificate (kept_behind passed cert) (certificate k pair.strip solution values)
   written : cert ≡ cert_text (certificate k pair.strip solution values)
 
 certified : (k : ℕ) (input cert : List ℕ) (n : ℕ) → Answers (Certify k) input Done cert n → IsCertified k input cert
@@ -95,7 +95,7 @@ certified k input cert n is =
       solves = s.1;
       values = t.values;
       holds = t.holds;
-      reads = λ passed. subst (λ (b : List ℕ). ReadsAs (kept_behind passed b) (certificate k strip s.0 t.values)) (sym text) (t.reads passed);
+      reads = λ passed. subst (λ (b : List ℕ). ReadsAsCertificate (kept_behind passed b) (certificate k strip s.0 t.values)) (sym text) (t.reads passed);
       written = text;
     }
 
@@ -137,10 +137,10 @@ listed_cost k input cert listed n c is =
 
 -- ---- it is accepted
 -- no other verdict
-judged : (k : ℕ) (p : Strip) (s : Solution) (values : List ℤ) (t : CertText) → parts_of t ≡ certificate k p s values → Certifies (arcs p) (rows p) (cols p) (rows p) (cols p) s.cost s.row s.word values → IsVerdict p t.cert Accept
+judged : (k : ℕ) (p : Strip) (s : Solution) (values : List ℤ) (t : CertText) → certificate_parts t ≡ certificate k p s values → Certifies (arcs p) (rows p) (cols p) (rows p) (cols p) s.cost s.row s.word values → IsVerdict p t.cert Accept
 judged k p s values t e holds = subst (λ (C : CertParts). Certifies (arcs p) (rows p) (cols p) C.head.rows C.head.cols C.head.cost C.head.start C.word C.values) (sym e) holds
 
-verdict_left : (k : ℕ) (p : Strip) (s : Solution) (values : List ℤ) (t : CertText) → parts_of t ≡ certificate k p s values → Certifies (arcs p) (rows p) (cols p) (rows p) (cols p) s.cost s.row s.word values
+verdict_left : (k : ℕ) (p : Strip) (s : Solution) (values : List ℤ) (t : CertText) → certificate_parts t ≡ certificate k p s values → Certifies (arcs p) (rows p) (cols p) (rows p) (cols p) s.cost s.row s.word values
     → Leaves (told (verdict_text k s.cost Accept) 0) (TellsVerdict p t)
 verdict_left k p s values t e holds reply u h =
     let accepts : Accept ≡ h.verdict = h.only Accept (judged k p s values t e holds) in
@@ -157,14 +157,14 @@ check_left k input cert c ends =
     let C = certificate k p c.solution c.values in
     let x : Reply = told (verdict_text k c.solution.cost Accept) 0 in
     let front = front_of input cert F ends c.read in
-    let reads : ReadsAs tail C = c.reads passed in
+    let reads : ReadsAsCertificate tail C = c.reads passed in
     let on_texts : List PairParts → CertText → Reply → Type 0 = λ ps t. on_pair ps t.pair (λ q. TellsVerdict q.strip t) in
-    let of_pair : (t : CertText) → parts_of t ≡ C → Leaves x (on_texts c.pairs t) =
+    let of_pair : (t : CertText) → certificate_parts t ≡ C → Leaves x (on_texts c.pairs t) =
     λ t e. (let number : t.pair ≡ k = ap (λ (D : CertParts). D.head.pair) e in
     leaves x (IsNoPair c.pairs t.pair) (IsPairOf c.pairs t.pair) (λ q. TellsVerdict q.strip t) (λ f u none. no_such c.pairs t.pair k c.pair f number none c.is_pair)
     (λ q is. subst (λ (q : PairParts). Leaves x (TellsVerdict q.strip t)) (same_pair c.pairs k t.pair c.pair q (sym number) c.is_pair is) (verdict_left k p c.solution c.values t e c.holds))) in
     let of_cert : Leaves x (on_cert last tail (on_texts c.pairs)) =
-    leaves x (IsCertFault tail last) (λ t. ReadsAs tail (parts_of t)) (on_texts c.pairs) (λ f u h. cert_or_fault tail last C f u reads h) (λ t is. of_pair t (reads_one tail (parts_of t) C is reads)) in
+    leaves x (IsCertFault tail last) (λ t. ReadsAsCertificate tail (certificate_parts t)) (on_texts c.pairs) (λ f u h. cert_or_fault tail last C f u reads h) (λ t is. of_pair t (reads_one tail (certificate_parts t) C is reads)) in
     let of_file : Leaves x (verdict last F tail) =
     leaves x (IsFoundIn F) (AreNumbered F) (λ ps. on_cert last tail (on_texts ps)) (λ f u h. objects_paired_or_found F c.numbered_are.0 f c.numbered_are.1 h)
     (λ ps is. subst (λ (qs : List PairParts). Leaves x (on_cert last tail (on_texts qs))) (as_many F c.pairs ps c.numbered_are is) of_cert) in

@@ -19,8 +19,8 @@ use Rattle.strip_potential.specs.Rows.{HasRows}
 use Rattle.cert_checker.specs.declared.certs.CertText.{CertText}
 use Rattle.cert_checker.specs.declared.certs.Verdict.{Verdict}
 use Rattle.cert_checker.specs.declared.certs.Verdict.TheVariants.{Accept, Size, Word, Cost, Arc, Turn}
-use Rattle.cert_checker.specs.CertTexts.{CertParts, cert_text, parts_of}
-use Rattle.cert_checker.specs.CertReading.{ReadsAs, IsCertFault}
+use Rattle.cert_checker.specs.CertTexts.{CertParts, cert_text, certificate_parts}
+use Rattle.cert_checker.specs.CertReading.{ReadsAsCertificate, IsCertFault}
 use Rattle.cert_checker.specs.Verdicts.{FitsPair, IsFirstStep, IsFirstRow, IsVerdict}
 use Rattle.cert_checker.proofs.TextLaws.{reads_one, one_fault, no_fault}
 use Rattle.section_pairs.specs.Pairs.{PairParts}
@@ -102,16 +102,16 @@ one_certify k F = one_numbered F _ (λ ps. agree_pairs ps k k refl _ _ (λ p. on
 one_cert_fault : (tail : List Kept) (last : ℕ) (f g : Fault) → IsToldFault f → IsToldFault g → IsCertFault tail last f → IsCertFault tail last g → f ≡ g
 one_cert_fault tail last f g t u h k = h.2 ∙ ap (λ (l : ℕ). CertForm l) (one_fault tail last h.0 k.0 h.1 k.1) ∙ sym k.2
 
-pub cert_or_fault : (tail : List Kept) (last : ℕ) (C : CertParts) (f : Fault) → IsToldFault f → ReadsAs tail C → IsCertFault tail last f → ⊥
+pub cert_or_fault : (tail : List Kept) (last : ℕ) (C : CertParts) (f : Fault) → IsToldFault f → ReadsAsCertificate tail C → IsCertFault tail last f → ⊥
 cert_or_fault tail last C f t is h = no_fault tail last h.0 C is h.1
 
-one_certs : (last : ℕ) (tail : List Kept) (rule : CertText → Reply → Type 0) → ((c d : CertText) → parts_of c ≡ parts_of d → Agree (rule c) (rule d)) → IsOne (on_cert last tail rule)
+one_certs : (last : ℕ) (tail : List Kept) (rule : CertText → Reply → Type 0) → ((c d : CertText) → certificate_parts c ≡ certificate_parts d → Agree (rule c) (rule d)) → IsOne (on_cert last tail rule)
 one_certs last tail rule agree =
-    one_then (IsCertFault tail last) (λ c. ReadsAs tail (parts_of c)) rule (one_cert_fault tail last) (λ c. cert_or_fault tail last (parts_of c))
-    (λ c d is has. agree c d (reads_one tail (parts_of c) (parts_of d) is has))
+    one_then (IsCertFault tail last) (λ c. ReadsAsCertificate tail (certificate_parts c)) rule (one_cert_fault tail last) (λ c. cert_or_fault tail last (certificate_parts c))
+    (λ c d is has. agree c d (reads_one tail (certificate_parts c) (certificate_parts d) is has))
 
 -- a verdict is one on the certificate as plain data
-same_fits : (p : Strip) (c d : CertText) → parts_of c ≡ parts_of d → FitsPair p c.cert → FitsPair p d.cert
+same_fits : (p : Strip) (c d : CertText) → certificate_parts c ≡ certificate_parts d → FitsPair p c.cert → FitsPair p d.cert
 same_fits p c d e h = record {
   rows_same = subst (λ (C : CertParts). C.head.rows ≡ rows p) e h.rows_same;
   cols_same = subst (λ (C : CertParts). C.head.cols ≡ cols p) e h.cols_same;
@@ -132,7 +132,7 @@ ArcHolds p C i j s = StepHolds (arcs p) (rows p) (cols p) C.values i j s
 abbrev Turns : Strip → CertParts → ℕ → Type 0
 Turns p C = TurnHolds (rows p) (cols p) C.values C.head.cost
 
-same_verdict : (p : Strip) (c d : CertText) → parts_of c ≡ parts_of d → (v : Verdict) → IsVerdict p c.cert v → IsVerdict p d.cert v
+same_verdict : (p : Strip) (c d : CertText) → certificate_parts c ≡ certificate_parts d → (v : Verdict) → IsVerdict p c.cert v → IsVerdict p d.cert v
 same_verdict p c d e Accept h = subst (λ (C : CertParts). Certifies (arcs p) (rows p) (cols p) C.head.rows C.head.cols C.head.cost C.head.start C.word C.values) e h
 same_verdict p c d e Size h = λ f. h (same_fits p d c (sym e) f)
 same_verdict p c d e Word h = (same_fits p c d e h.0, subst (λ (C : CertParts). HasTiling p C → ⊥) e h.1)
@@ -146,7 +146,7 @@ same_verdict p c d e (Turn i) h = (
   subst (λ (C : CertParts). IsFirstRow (Turns p C) i) e h.4,
 )
 
-agree_verdicts : (p : Strip) (c d : CertText) → parts_of c ≡ parts_of d → Agree (TellsVerdict p c) (TellsVerdict p d)
+agree_verdicts : (p : Strip) (c d : CertText) → certificate_parts c ≡ certificate_parts d → Agree (TellsVerdict p c) (TellsVerdict p d)
 agree_verdicts p c d e r s t u h k =
     let same : h.verdict ≡ k.verdict = k.only h.verdict (same_verdict p c d e h.verdict h.judges) in
     agree_tells (verdict_text c.pair c.cert.cost h.verdict) (verdict_text d.pair d.cert.cost k.verdict) 0 0

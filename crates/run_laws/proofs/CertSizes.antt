@@ -12,7 +12,7 @@ use Rattle.std.proofs.lemmas.List.Sums.{sum_by-cons}
 use Rattle.strip_graph.specs.declared.tilings.Step.{Step}
 use Rattle.strip_graph.specs.Certificates.{IsModest}
 use Rattle.text_io.specs.WordLists.{Word, text, number, word_text, spaced, line_text}
-use Rattle.cert_checker.specs.CertTexts.{CertHead, CertParts, IsHead, IsWord, IsRow, IsLawful, letter, named, head_line, word_line, row_line, end_line, rows_in, value_lines, cert_text}
+use Rattle.cert_checker.specs.CertTexts.{CertHead, CertParts, IsHead, IsWord, IsValueRow, IsLawfulCertificate, letter, named, head_line, word_line, row_line, certificate_end, rows_in, value_lines, cert_text}
 use Rattle.cert_checker.proofs.RowLists.{rows_count}
 use Rattle.cert_checker.proofs.PrintedCerts.{each_row}
 
@@ -37,11 +37,11 @@ values_size : (xs : List ℤ) → AllByRecursion IsModest xs → sum_by Size (ro
 values_size [] h = omega arith
 values_size (x ∷ xs) h = omega (arith, sum_by-cons Size (number x) (row_line xs), value_size x h.0, values_size xs h.1)
 
-row_size : (w : ℕ) (xs : List ℤ) → 0 < w → IsRow w xs → length (line_text (row_line xs)) ≤ 39 * w
+row_size : (w : ℕ) (xs : List ℤ) → 0 < w → IsValueRow w xs → length (line_text (row_line xs)) ≤ 39 * w
 row_size w [] some r = absurd (omega (arith, r.0, some))
 row_size w (x ∷ xs) some r = omega (arith, line_size (number x) (row_line xs), values_size (x ∷ xs) (recursion_from_All IsModest (x ∷ xs) r.1), r.0)
 
-rows_size : (w : ℕ) (rs : List (List ℤ)) → 0 < w → AllByRecursion (IsRow w) rs → length (flat_map line_text (map row_line rs)) ≤ length rs * (39 * w)
+rows_size : (w : ℕ) (rs : List (List ℤ)) → 0 < w → AllByRecursion (IsValueRow w) rs → length (flat_map line_text (map row_line rs)) ≤ length rs * (39 * w)
 rows_size w [] some h = omega arith
 rows_size w (r ∷ rs) some h = omega (arith, length-append (line_text (row_line r)) (flat_map line_text (map row_line rs)), row_size w r some h.0, rows_size w rs some h.1)
 
@@ -75,7 +75,7 @@ head_size h i =
 word_size : (w : List Step) → IsWord w → length (line_text (word_line w)) ≤ 8200
 word_size w i = omega (arith, line_size (text (codes "WORD")) (text (map letter w) ∷ []), sum_by-cons Size (text (codes "WORD")) (text (map letter w) ∷ []), sum_by-cons Size (text (map letter w)) [], length-map w letter, i.1)
 
-pub text_size : (C : CertParts) → IsLawful C → length (cert_text C) ≤ 1400000000
+pub text_size : (C : CertParts) → IsLawfulCertificate C → length (cert_text C) ≤ 1400000000
 text_size C l =
     let w = C.head.cols + 1 in
     let k = 2 * C.head.rows in
@@ -87,10 +87,10 @@ text_size C l =
     let long : length rs ≤ 8192 = omega (arith, rows_count w k C.values, l.head.rows.1) in
     omega (
       arith,
-      length-append a (b ++ flat_map line_text (value_lines C ++ end_line ∷ [])),
-      length-append b (flat_map line_text (value_lines C ++ end_line ∷ [])),
-      ap length (flat_map-append line_text (value_lines C) (end_line ∷ [])),
-      length-append c (flat_map line_text (end_line ∷ [])),
+      length-append a (b ++ flat_map line_text (value_lines C ++ certificate_end ∷ [])),
+      length-append b (flat_map line_text (value_lines C ++ certificate_end ∷ [])),
+      ap length (flat_map-append line_text (value_lines C) (certificate_end ∷ [])),
+      length-append c (flat_map line_text (certificate_end ∷ [])),
       head_size C.head l.head,
       word_size C.word l.word,
       rows_size w rs (omega arith) (each_row C l),

@@ -16,7 +16,7 @@ use Rattle.surface_cli.specs.declared.commands.Command.TheVariants.{Tilings, Rec
 use Rattle.command_replies.specs.Reply.{Tells}
 use Rattle.pair_commands.specs.Tilings.{tilings, tilings_text}
 use Rattle.surface_commands.specs.Reconstruct.{reconstruct}
-use Rattle.surface_commands.specs.Report.{Reports, report, demo_report, report_text, sizes_text, measures_text, demo_line}
+use Rattle.surface_commands.specs.Report.{Reports, report, demo_report, report_text, sizes_text, four_measures, demo_line}
 use Rattle.pair_commands.specs.Certify.{certify}
 use Rattle.surface_commands.specs.Slice.{slice}
 use Rattle.surface_commands.specs.Edit.{edit}
@@ -47,7 +47,7 @@ one_ring_caps F = one_ring_surface_of F (λ b. Tells (byu_of (surface_of b.mesh)
 
 -- a report is made of determined parts
 abbrev text_from : List SectionParts → Surface → ℕ → ℕ → ℤ → List ℕ
-text_from sections m folded pairs cost = sizes_text (length sections) (length (contours_of sections)) (length m.vertices) (sum_by length m.parts) ++ measures_text folded pairs cost (six_volume m origin)
+text_from sections m folded pairs cost = sizes_text (length sections) (length (contours_of sections)) (length m.vertices) (sum_by length m.parts) ++ four_measures folded pairs cost (six_volume m origin)
 
 same_report : (sections : List SectionParts) (b c : Built) → AreAlike b c → report_text sections b ≡ report_text sections c
 same_report sections b c e =

@@ -5,7 +5,7 @@ use Rattle.fku_types.specs.declared.fault.Fault.{Fault}
 use Rattle.fku_types.specs.declared.fault.Fault.TheVariants.{ByuForm}
 use Rattle.triangle_meshes.specs.Meshes.{Surface}
 use Rattle.byu_text.specs.Answers.{IsByuFault}
-use Rattle.byu_text.specs.Reading.{ReadsAs}
+use Rattle.byu_text.specs.Reading.{ReadsAsMesh}
 use Rattle.byu_text.proofs.Fronts.{no_fault, one_fault}
 use Rattle.byu_text.proofs.Whole.{reads_one}
 use Rattle.command_replies.specs.Reply.{Reply}
@@ -19,7 +19,7 @@ use Rattle.run_laws.proofs.ReplyLaws.{IsOne, IsToldFault, agree_tells, one_stage
 one_byu_fault : (bytes : List ℕ) (f g : Fault) → IsToldFault f → IsToldFault g → IsByuFault bytes f → IsByuFault bytes g → f ≡ g
 one_byu_fault bytes f g t u h k = h.2 ∙ ap (λ (l : ℕ). ByuForm l) (one_fault bytes h.0 k.0 h.1 k.1) ∙ sym k.2
 
-mesh_or_fault : (bytes : List ℕ) (m : Surface) (f : Fault) → IsToldFault f → ReadsAs bytes m → IsByuFault bytes f → ⊥
+mesh_or_fault : (bytes : List ℕ) (m : Surface) (f : Fault) → IsToldFault f → ReadsAsMesh bytes m → IsByuFault bytes f → ⊥
 mesh_or_fault bytes m f t is h = no_fault bytes h.0 m is h.1
 
 -- a test has one outcome
@@ -35,7 +35,7 @@ one_counts m r s t u h k =
 
 -- a rule on the mesh whose text the bytes are
 pub one_mesh : (rule : Surface → Reply → Type 0) → ((m : Surface) → IsOne (rule m)) → (bytes : List ℕ) → IsOne (on_mesh rule bytes)
-one_mesh rule one bytes = one_stage (IsByuFault bytes) (ReadsAs bytes) rule (one_byu_fault bytes) (mesh_or_fault bytes) (reads_one bytes) (λ m is. one m)
+one_mesh rule one bytes = one_stage (IsByuFault bytes) (ReadsAsMesh bytes) rule (one_byu_fault bytes) (mesh_or_fault bytes) (reads_one bytes) (λ m is. one m)
 
 pub one_count : (bytes : List ℕ) → IsOne (count bytes)
 one_count bytes = one_mesh TellsCounts one_counts bytes

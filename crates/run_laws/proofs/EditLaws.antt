@@ -22,7 +22,7 @@ use Rattle.section_edits.proofs.LineLaws.{one_edit}
 use Rattle.section_edits.proofs.EditLaws.{not_both, one_refusal}
 use Rattle.command_replies.specs.Reply.{Reply, Then, NoFault, Tells}
 use Rattle.command_replies.specs.Stages.{on_surface_of}
-use Rattle.surface_commands.specs.Edit.{Answer, Editing, IsAnswer, IsCount, IsEditing, IsTooMany, AreFew, AreAnswers, StandsFor, answers_text, edit, edit_sections, edits_text, on_edits, solved_for}
+use Rattle.surface_commands.specs.Edit.{LineAnswer, Editing, IsLineAnswer, IsPairCount, IsEditing, IsTooMany, AreFew, AreAnswers, StandsFor, answers_text, edit, edit_sections, edits_text, on_edits, solved_for}
 use Rattle.run_laws.proofs.ReplyLaws.{Agree, IsOne, agree_tells, one_only, one_pairs_of, one_stage, one_surface_of_one, one_then}
 
 -- a line stands for one edit, or for none
@@ -44,7 +44,7 @@ same_done : (c d : Done) → c.solved ≡ d.solved → c.reused ≡ d.reused →
 same_done c d s r = ap₂ (λ (m n : ℕ). let done : Done = record { solved = m; reused = n } in done) s r
 
 -- the counts of pairs are determined by the sections before and after
-one_count : (S T : Parts) (c d : Done) → IsCount S T c → IsCount S T d → c ≡ d
+one_count : (S T : Parts) (c d : Done) → IsPairCount S T c → IsPairCount S T d → c ≡ d
 one_count S T c d h k =
     let before = one_pairs S h.before k.before h.pairs_before k.pairs_before in
     let after = one_pairs T h.after k.after h.pairs_after k.pairs_after in
@@ -52,18 +52,18 @@ one_count S T c d h k =
     same_done c d solved (omega (arith, solved, h.counts.reused, k.counts.reused, ap length after))
 
 -- an answer is unique, and so are the sections after it
-one_answer : (S : Parts) (e : Option Edit) (a b : Answer) (T U : Parts) → IsAnswer S e a T → IsAnswer S e b U → (a ≡ b) × (T ≡ U)
+one_answer : (S : Parts) (e : Option Edit) (a b : LineAnswer) (T U : Parts) → IsLineAnswer S e a T → IsLineAnswer S e b U → (a ≡ b) × (T ≡ U)
 one_answer S None (Ok c) b T U h k = absurd h
 one_answer S None (Err f) (Ok d) T U h k = absurd k
 one_answer S None (Err f) (Err g) T U h k = (ap Err (h.0 ∙ sym k.0), h.1 ∙ sym k.1)
 one_answer S (Some e) (Ok c) (Ok d) T U h k =
     let same = h.0.parts ∙ sym k.0.parts in
-    (ap Ok (one_count S U c d (subst (λ (V : Parts). IsCount S V c) same h.1) k.1), same)
+    (ap Ok (one_count S U c d (subst (λ (V : Parts). IsPairCount S V c) same h.1) k.1), same)
 one_answer S (Some e) (Ok c) (Err g) T U h k = absurd (not_both S T e g h.0 k.0)
 one_answer S (Some e) (Err f) (Ok d) T U h k = absurd (not_both S U e f k.0 h.0)
 one_answer S (Some e) (Err f) (Err g) T U h k = (ap Err (one_refusal S e f g h.0 k.0), h.1 ∙ sym k.1)
 
-one_answers : (S : Parts) (es : List (Option Edit)) (ss ts : List Answer) (T U : Parts) → AreAnswers S es ss T → AreAnswers S es ts U → (ss ≡ ts) × (T ≡ U)
+one_answers : (S : Parts) (es : List (Option Edit)) (ss ts : List LineAnswer) (T U : Parts) → AreAnswers S es ss T → AreAnswers S es ts U → (ss ≡ ts) × (T ≡ U)
 one_answers S [] [] [] T U h k = (refl, h ∙ sym k)
 one_answers S [] [] (b ∷ ts) T U h k = absurd k
 one_answers S [] (a ∷ ss) ts T U h k = absurd h
@@ -72,7 +72,7 @@ one_answers S (e ∷ es) (a ∷ ss) [] T U h k = absurd k
 one_answers S (e ∷ es) (a ∷ ss) (b ∷ ts) T U h k =
     let first = one_answer S e a b h.0 k.0 h.1 k.1 in
     let more = one_answers h.0 es ss ts T U h.2 (subst (λ (V : Parts). AreAnswers V es ts U) (sym first.1) k.2) in
-    (ap₂ (λ (x : Answer) (xs : List Answer). x ∷ xs) first.0 more.0, more.1)
+    (ap₂ (λ (x : LineAnswer) (xs : List LineAnswer). x ∷ xs) first.0 more.0, more.1)
 
 one_editing : (S : Parts) (lines : List Line) (x y : Editing) → IsEditing S lines x → IsEditing S lines y → (x.answers ≡ y.answers) × (x.sections ≡ y.sections)
 one_editing S lines x y h k =
@@ -80,13 +80,13 @@ one_editing S lines x y h k =
     one_answers S x.edits x.answers y.answers x.sections y.sections h.answered (subst (λ (es : List (Option Edit)). AreAnswers S es y.answers y.sections) (sym same) k.answered)
 
 -- the text is determined
-abbrev text_with : List Answer → Surface → List ℕ
+abbrev text_with : List LineAnswer → Surface → List ℕ
 text_with answers m = answers_text 1 answers ++ (codes "EDITS " ++ (decimal (length answers) ++ (codes "\n" ++ byu_of m)))
 
-abbrev ending : ℕ → List Answer → Parts → Reply → Type 0
+abbrev ending : ℕ → List LineAnswer → Parts → Reply → Type 0
 ending solved answers T = on_surface_of T (λ b. Tells (edits_text byu_of answers b) (solved + sum_by solved_for answers))
 
-one_ending : (solved : ℕ) (answers : List Answer) (T : Parts) → IsOne (ending solved answers T)
+one_ending : (solved : ℕ) (answers : List LineAnswer) (T : Parts) → IsOne (ending solved answers T)
 one_ending solved answers T =
     let n = solved + sum_by solved_for answers in
     one_surface_of_one T (λ b. Tells (edits_text byu_of answers b) n)
@@ -96,7 +96,7 @@ agree_endings : (solved : ℕ) (S : Parts) (lines : List Line) (x y : Editing) �
 agree_endings solved S lines x y is has =
     let same = one_editing S lines x y is has in
     subst (λ (T : Parts). Agree (ending solved x.answers x.sections) (ending solved y.answers T)) same.1
-    (subst (λ (ss : List Answer). Agree (ending solved x.answers x.sections) (ending solved ss x.sections)) same.0 (one_ending solved x.answers x.sections))
+    (subst (λ (ss : List LineAnswer). Agree (ending solved x.answers x.sections) (ending solved ss x.sections)) same.0 (one_ending solved x.answers x.sections))
 
 one_edits : (S : Parts) (solved : ℕ) (lines : List Line) → IsOne (on_edits byu_of S solved lines)
 one_edits S solved lines =

@@ -24,10 +24,11 @@ use Rattle.section_core.proofs.Length.{file_short}
 use Rattle.section_core.proofs.OneObject.{accepted-to, objects_accepted}
 use Rattle.section_edits.specs.declared.edit.Edit.{Edit}
 use Rattle.section_edits.specs.declared.edit.Edit.TheVariants.{AddContour, Insert, Move, Remove, RemoveContour}
-use Rattle.section_edits.specs.Changes.{changed, spot_at}
-use Rattle.section_edits.specs.Contours.{contour_of, has_contour, has_name, has_section, spots_of}
-use Rattle.section_edits.specs.Lines.{IsWritten}
-use Rattle.section_edits.specs.Ready.{IsReady}
+use Rattle.section_edits.specs.Changes.{changed}
+use Rattle.section_core.specs.Views.{spot_at}
+use Rattle.section_edits.specs.Contours.{contour_of, has_contour_named, has_name, has_section_at, spots_of}
+use Rattle.section_edits.specs.Lines.{IsWritableEdit}
+use Rattle.section_edits.specs.Ready.{IsReadyParts}
 use Rattle.section_edits.specs.Refusals.{is_far, IsRefusal, vertex_count_of}
 use Rattle.section_edits.proofs.AddedContours.{ready_added}
 use Rattle.section_edits.proofs.Answering.{passed}
@@ -48,7 +49,7 @@ use Rattle.command_replies.specs.declared.status.Status.TheVariants.{Done}
 use Rattle.command_replies.specs.Reply.{NoFault, Reply, Tells, Then, goes_on, told}
 use Rattle.command_replies.specs.Stages.{AreSeveral, IsFront, IsOnly, IsSurfaceOf, IsSurfaceOfOne, on_front, on_surface_of}
 use Rattle.command_replies.proofs.ReplyLemmas.{went}
-use Rattle.surface_commands.specs.Edit.{Answer, AreAnswers, AreFew, Editing, IsEditing, IsTooMany, StandsFor, edit, edit_sections, edits_text, on_edits, solved_for}
+use Rattle.surface_commands.specs.Edit.{LineAnswer, AreAnswers, AreFew, Editing, IsEditing, IsTooMany, StandsFor, edit, edit_sections, edits_text, on_edits, solved_for}
 use Rattle.surface_cli.specs.Out.{Answers, IsOut}
 use Rattle.surface_cli.specs.Headline.{AsksFor}
 use Rattle.run_laws.specs.Laws.{AreEditsOf}
@@ -61,25 +62,25 @@ record AreEnough (spots : List (ℤ × ℤ)) : Type 0 where
   some : 3 ≤ length spots
   in_range : AllByRecursion IsSpot spots
 
-named : (S : Parts) (name : List ℕ) (o : Option ContourParts) → IsReady S → contour_of S.sections name ≡ o → is_some o ≡ true → AreEnough (spots_of S.sections name)
+named : (S : Parts) (name : List ℕ) (o : Option ContourParts) → IsReadyParts S → contour_of S.sections name ≡ o → is_some o ≡ true → AreEnough (spots_of S.sections name)
 named S name None r e h = absurd (cc)
 named S name (Some k) r e h =
     let whole = whole_named S name k e r in
     subst AreEnough (sym (its_spots S.sections name k e)) (record { some = enough (length k.points) k.count whole.0.1 whole.1; in_range = whole.2 })
 
-there : (S : Parts) (name : List ℕ) → IsReady S → not (has_contour S.sections name) ≡ false → AreEnough (spots_of S.sections name)
-there S name r h = named S name (contour_of S.sections name) r refl (not-false (has_contour S.sections name) h)
+there : (S : Parts) (name : List ℕ) → IsReadyParts S → not (has_contour_named S.sections name) ≡ false → AreEnough (spots_of S.sections name)
+there S name r h = named S name (contour_of S.sections name) r refl (not-false (has_contour_named S.sections name) h)
 
 missing : (S : Parts) (name : List ℕ) (o : Option ContourParts) → contour_of S.sections name ≡ o → is_some o ≡ false → find (has_name name) (contours_of S.sections) ≡ None
 missing S name None e h = e
 missing S name (Some k) e h = absurd (cc)
 
-changed_accepted : (S : Parts) (e : Edit) → IsAccepted S → IsWritten e → IsRefusal S e None → IsAccepted (changed S e)
+changed_accepted : (S : Parts) (e : Edit) → IsAccepted S → IsWritableEdit e → IsRefusal S e None → IsAccepted (changed S e)
 changed_accepted S (Move name i x y) a w h =
     let p = passed S (Move name i x y) h in
     let r = ready S a in
     let near_by = passes (is_far (record { x = x; y = y })) _ _ p.own in
-    let has = passes (not (has_contour S.sections name)) _ _ near_by.1 in
+    let has = passes (not (has_contour_named S.sections name)) _ _ near_by.1 in
     let within = passes (nat_le (vertex_count_of S name) i) _ _ has.1 in
     let old = there S name r has.0 in
     accepted (changed S (Move name i x y))
@@ -90,7 +91,7 @@ changed_accepted S (Insert name i x y) a w h =
     let p = passed S (Insert name i x y) h in
     let r = ready S a in
     let near_by = passes (is_far (record { x = x; y = y })) _ _ p.own in
-    let has = passes (not (has_contour S.sections name)) _ _ near_by.1 in
+    let has = passes (not (has_contour_named S.sections name)) _ _ near_by.1 in
     let within = passes (nat_lt (vertex_count_of S name) i) _ _ has.1 in
     let old = there S name r has.0 in
     accepted (changed S (Insert name i x y))
@@ -101,7 +102,7 @@ changed_accepted S (Insert name i x y) a w h =
 changed_accepted S (Remove name i) a w h =
     let p = passed S (Remove name i) h in
     let r = ready S a in
-    let has = passes (not (has_contour S.sections name)) _ _ p.own in
+    let has = passes (not (has_contour_named S.sections name)) _ _ p.own in
     let within = passes (nat_le (vertex_count_of S name) i) _ _ has.1 in
     let many = passes (nat_le (vertex_count_of S name) 3) _ _ within.1 in
     let old = there S name r has.0 in
@@ -113,9 +114,9 @@ changed_accepted S (AddContour z name points) a w h =
     let p = passed S (AddContour z name points) h in
     let r = ready S a in
     let near_by = passes (list_any is_far points) _ _ p.own in
-    let section = passes (not (has_section S.sections z)) _ _ near_by.1 in
+    let section = passes (not (has_section_at S.sections z)) _ _ near_by.1 in
     let many = passes (nat_lt (length points) 3) _ _ section.1 in
-    let new = passes (has_contour S.sections name) _ _ many.1 in
+    let new = passes (has_contour_named S.sections name) _ _ many.1 in
     let three : 3 ≤ length points = ltb-false (length points) 3 many.0 in
     accepted (changed S (AddContour z name points))
     (ready_added S z name (map spot_at points) r w.1 (missing S name (contour_of S.sections name) refl new.0) (omega (arith, three, length-map points spot_at)) (all_near points near_by.0)) p.late
@@ -123,10 +124,10 @@ changed_accepted S (RemoveContour name) a w h =
     let p = passed S (RemoveContour name) h in
     accepted (changed S (RemoveContour name)) (ready_dropped S name (ready S a)) p.late
 
-edited_accepted : (S T : Parts) (e : Edit) → IsAccepted S → IsWritten e → IsEdited S e T → IsAccepted T
+edited_accepted : (S T : Parts) (e : Edit) → IsAccepted S → IsWritableEdit e → IsEdited S e T → IsAccepted T
 edited_accepted S T e a w d = subst IsAccepted (sym d.parts) (changed_accepted S e a w d.not_refused)
 
-answers_accepted : (S : Parts) (lines : List Line) (es : List (Option Edit)) (answers : List Answer) (U : Parts) → IsAccepted S → AllZip StandsFor lines es → AreAnswers S es answers U → IsAccepted U
+answers_accepted : (S : Parts) (lines : List Line) (es : List (Option Edit)) (answers : List LineAnswer) (U : Parts) → IsAccepted S → AllZip StandsFor lines es → AreAnswers S es answers U → IsAccepted U
 answers_accepted S [] [] [] U a r h = subst IsAccepted (sym h) a
 answers_accepted S [] [] (x ∷ answers) U a r h = absurd h
 answers_accepted S [] (e ∷ es) answers U a r h = absurd r

@@ -18,7 +18,7 @@ use Rattle.landmarks.specs.declared.marks.Mark.{Mark}
 use Rattle.landmarks.specs.declared.marks.MarkFault.{MarkFault}
 use Rattle.landmarks.specs.declared.marks.MarkFault.TheVariants.{NoSpan, Repeated, Cross, NoMemory}
 use Rattle.landmarks.specs.declared.pieces.Marked.{Marked}
-use Rattle.landmarks.specs.Faults.{mark_at, HasNoSpan, IsRepeated, IsGood, AreGood, FollowsGood, IsFirstFault}
+use Rattle.landmarks.specs.Faults.{mark_at, HasNoSpan, IsRepeated, IsGood, AreSoundMarks, FollowsGood, IsFirstFaultOfMarks}
 use Rattle.landmarks.specs.Marked.{Part, part_of, SaySame}
 use Rattle.landmarks.proofs.Unique.{solved_marked_unique}
 use Rattle.section_pairs.specs.Pairs.{PairParts}
@@ -62,13 +62,13 @@ record IsAt (m n : ℕ) (marks : List Mark) (q : ℕ) : Type 0 where
   follows : FollowsGood m n marks q
   bad : IsGood m n marks q → ⊥
 
-at_span : (m n : ℕ) (marks : List Mark) (q : ℕ) → IsFirstFault m n marks (NoSpan q) → IsAt m n marks q
+at_span : (m n : ℕ) (marks : List Mark) (q : ℕ) → IsFirstFaultOfMarks m n marks (NoSpan q) → IsAt m n marks q
 at_span m n marks q h = record { follows = h.0; bad = λ g. elim h.1 [ inl a ↦ omega (arith, a, g.row) | inr b ↦ omega (arith, b, g.col) ] }
 
-at_repeated : (m n : ℕ) (marks : List Mark) (q : ℕ) → IsFirstFault m n marks (Repeated q) → IsAt m n marks q
+at_repeated : (m n : ℕ) (marks : List Mark) (q : ℕ) → IsFirstFaultOfMarks m n marks (Repeated q) → IsAt m n marks q
 at_repeated m n marks q h = record { follows = h.0; bad = λ g. g.new h.2 }
 
-at_cross : (m n : ℕ) (marks : List Mark) (q : ℕ) → IsFirstFault m n marks (Cross q) → IsAt m n marks q
+at_cross : (m n : ℕ) (marks : List Mark) (q : ℕ) → IsFirstFaultOfMarks m n marks (Cross q) → IsAt m n marks q
 at_cross m n marks q h = record { follows = h.0; bad = λ g. g.straight h.3 }
 
 one_place : (m n : ℕ) (marks : List Mark) (q r : ℕ) → IsAt m n marks q → IsAt m n marks r → q ≡ r
@@ -79,18 +79,18 @@ one_place m n marks q r h k =
       | inr (inr more) ↦ absurd (k.bad (h.follows.earlier r more))
     ]
 
-good_bad : (m n : ℕ) (marks : List Mark) (q : ℕ) → AreGood m n marks → IsAt m n marks q → ⊥
+good_bad : (m n : ℕ) (marks : List Mark) (q : ℕ) → AreSoundMarks m n marks → IsAt m n marks q → ⊥
 good_bad m n marks q g h = h.bad (g.good q h.follows.there)
 
 -- good marks have no fault that is reported
-told_bad : (m n : ℕ) (marks : List Mark) (x : PairMark) (cause : MarkFault) (f : Fault) → AreGood m n marks → IsFirstFault m n marks cause → IsToldOf x cause f → ⊥
+told_bad : (m n : ℕ) (marks : List Mark) (x : PairMark) (cause : MarkFault) (f : Fault) → AreSoundMarks m n marks → IsFirstFaultOfMarks m n marks cause → IsToldOf x cause f → ⊥
 told_bad m n marks x (NoSpan q) f g h t = good_bad m n marks q g (at_span m n marks q h)
 told_bad m n marks x (Repeated q) f g h t = good_bad m n marks q g (at_repeated m n marks q h)
 told_bad m n marks x (Cross q) f g h t = good_bad m n marks q g (at_cross m n marks q h)
 told_bad m n marks x NoMemory f g h t = t
 
 -- and marks have only one fault
-told_once : (m n : ℕ) (marks : List Mark) (x : PairMark) (a b : MarkFault) (f g : Fault) → IsFirstFault m n marks a → IsFirstFault m n marks b → IsToldOf x a f → IsToldOf x b g → f ≡ g
+told_once : (m n : ℕ) (marks : List Mark) (x : PairMark) (a b : MarkFault) (f g : Fault) → IsFirstFaultOfMarks m n marks a → IsFirstFaultOfMarks m n marks b → IsToldOf x a f → IsToldOf x b g → f ≡ g
 told_once m n marks x (NoSpan q) (NoSpan r) f g h k s t = s ∙ sym t
 told_once m n marks x (NoSpan q) (Repeated r) f g h k s t = let e = one_place m n marks q r (at_span m n marks q h) (at_repeated m n marks r k) in absurd (k.1 (subst (λ (p : ℕ). HasNoSpan m n (mark_at marks p)) e h.1))
 told_once m n marks x (NoSpan q) (Cross r) f g h k s t = let e = one_place m n marks q r (at_span m n marks q h) (at_cross m n marks r k) in absurd (k.1 (subst (λ (p : ℕ). HasNoSpan m n (mark_at marks p)) e h.1))
@@ -108,7 +108,7 @@ told_once m n marks x NoMemory b f g h k s t = absurd s
 mark_excludes : (ps : List PairParts) (before : List PairMark) (x : PairMark) (f : Fault) → IsGoodMark ps before x → HasMarkFault ps before x f → ⊥
 mark_excludes ps before x f g (no_pair l) = pair_there ps x.pair g.pair g.is_pair l
 mark_excludes ps before x f g (of_pair p cause fault is h t) =
-    let P : PairParts → Type 0 = λ q. AreGood (rows q.strip) (cols q.strip) (marks_of x.pair (before ++ x ∷ [])) in
+    let P : PairParts → Type 0 = λ q. AreSoundMarks (rows q.strip) (cols q.strip) (marks_of x.pair (before ++ x ∷ [])) in
     told_bad (rows p.strip) (cols p.strip) (marks_of x.pair (before ++ x ∷ [])) x cause fault (subst P (same_pair ps x.pair x.pair g.pair p refl g.is_pair is) g.good) h t
 
 mark_once : (ps : List PairParts) (before : List PairMark) (x : PairMark) (f g : Fault) → HasMarkFault ps before x f → HasMarkFault ps before x g → f ≡ g
@@ -117,7 +117,7 @@ mark_once ps before x f g (no_pair l) (of_pair p cause fault is h t) = absurd (p
 mark_once ps before x f g (of_pair p cause fault is h t) (no_pair m) = absurd (pair_there ps x.pair p is m)
 mark_once ps before x f g (of_pair p a fault is h s) (of_pair q b other has k t) =
     let marks = marks_of x.pair (before ++ x ∷ []) in
-    let P : PairParts → Type 0 = λ r. IsFirstFault (rows r.strip) (cols r.strip) marks b in
+    let P : PairParts → Type 0 = λ r. IsFirstFaultOfMarks (rows r.strip) (cols r.strip) marks b in
     told_once (rows p.strip) (cols p.strip) marks x a b fault other h (subst P (same_pair ps x.pair x.pair q p refl has is) k) s t
 
 -- a line that says no mark is not among lines that do

@@ -12,9 +12,9 @@ use Rattle.mesh_measures.specs.declared.boxes.Bounds.{Bounds}
 use Rattle.mesh_measures.specs.declared.enclosing.Solid.{Solid}
 use Rattle.mesh_measures.specs.declared.measuring.Measures.{Measures}
 use Rattle.mesh_measures.specs.Areas.{IsRootAbove, IsRootBelow, IsSum, none, more, scaled_square}
-use Rattle.mesh_measures.specs.Boxes.{IsBox, IsGreatest, IsLeast}
+use Rattle.mesh_measures.specs.Boxes.{IsBox, IsGreatest, IsSmallest}
 use Rattle.surface_commands.specs.MeshTexts.{parts_line}
-use Rattle.surface_commands.specs.Measure.{AreMeasures, IsSolid, box_text, measured_text, measures_text, parts_text, point_text, solid_text}
+use Rattle.surface_commands.specs.Measure.{AreMeasures, IsSolid, box_text, measured_text, measures_text, parts_text, corner_text, solid_text}
 
 -- ---- the area
 one_root_below : (v r q : ℕ) → IsRootBelow v r → IsRootBelow v q → r ≡ q
@@ -46,7 +46,7 @@ one_added R one [] m n h k = h ∙ sym k
 one_added R one (x ∷ xs) m n h k = h.4 ∙ ap₂ ◌+◌ (one x h.0 k.0 h.2 k.2) (one_added R one xs h.1 k.1 h.3 k.3) ∙ sym k.4
 
 -- ---- the box
-one_least : (v w : ℤ) (xs : List ℤ) → IsLeast v xs → IsLeast w xs → v ≡ w
+one_least : (v w : ℤ) (xs : List ℤ) → IsSmallest v xs → IsSmallest w xs → v ≡ w
 one_least v w xs h k =
     let a : v ≤ℤ w = subst (λ (z : ℤ). v ≤ℤ z) k.0.2 (h.1 k.0.0 w k.0.1) in
     let b : w ≤ℤ v = subst (λ (z : ℤ). w ≤ℤ z) h.0.2 (k.1 h.0.0 v h.0.1) in
@@ -58,7 +58,7 @@ one_greatest v w xs h k =
     let b : v ≤ℤ w = subst (λ (z : ℤ). z ≤ℤ w) h.0.2 (k.1 h.0.0 v h.0.1) in
     omega (arith, ints)
 
-one_point : (p q : Point) → p.x ≡ q.x → p.y ≡ q.y → p.z ≡ q.z → point_text p ≡ point_text q
+one_point : (p q : Point) → p.x ≡ q.x → p.y ≡ q.y → p.z ≡ q.z → corner_text p ≡ corner_text q
 one_point p q x y z =
     ap (λ (n : ℤ). signed_decimal n ++ (codes " " ++ (signed_decimal p.y ++ (codes " " ++ signed_decimal p.z)))) x
     ∙ ap (λ (n : ℤ). signed_decimal q.x ++ (codes " " ++ (signed_decimal n ++ (codes " " ++ signed_decimal p.z)))) y

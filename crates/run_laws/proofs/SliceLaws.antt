@@ -19,7 +19,7 @@ use Rattle.section_slices.specs.declared.slices.SliceLoops.{SliceLoops}
 use Rattle.section_slices.proofs.SliceHeights.{no_fault}
 use Rattle.section_slices.proofs.SliceLaws.{not_on_section, one_slice}
 use Rattle.command_replies.specs.Reply.{Tells}
-use Rattle.surface_commands.specs.Slice.{AreCuts, IsHeightFault, outside, on_section, cuts_text, height_text, loop_text, object_cut, slice, slice_text}
+use Rattle.surface_commands.specs.Slice.{AreCuts, IsHeightFaultOfAll, outside, on_section, cuts_text, height_text, loop_text, object_cut, slice, slice_text}
 use Rattle.run_laws.proofs.ReplyLaws.{IsOne, agree_tells, one_pair_lists_of, one_then}
 
 -- the heights of each object rise
@@ -65,7 +65,7 @@ one_cuts F z (o ∷ os) r (c ∷ cs) (d ∷ ds) h k =
 outside_at : (F : FileParts) (z : ℤ) (k : ℕ) (S : Parts) → All (λ (T : Parts). IsOutside T z) (objects_in F) → slice_get (objects_in F) k ≡ Some S → IsOutside S z
 outside_at F z k S all there = subst (λ (T : Parts). IsOutside T z) (get_or_from_slice_get (objects_in F) k S S there) (all k S (slice_get_within (objects_in F) k S there))
 
-one_height_fault : (F : FileParts) (z : ℤ) (f g : Fault) → IsHeightFault F z f → IsHeightFault F z g → f ≡ g
+one_height_fault : (F : FileParts) (z : ℤ) (f g : Fault) → IsHeightFaultOfAll F z f → IsHeightFaultOfAll F z g → f ≡ g
 one_height_fault F z _ _ (outside all) (outside every) = refl
 one_height_fault F z _ _ (outside all) (on_section k S there on) = absurd (not_on_section S z (outside_at F z k S all there) on)
 one_height_fault F z _ _ (on_section k S there on) (outside all) = absurd (not_on_section S z (outside_at F z k S all there) on)
@@ -82,7 +82,7 @@ cuts_miss F z (o ∷ os) r [] h k S there on = absurd h
 cuts_miss F z (o ∷ os) r (c ∷ cs) h zero S there on = let same : S ≡ alone F o = cc in cut_misses z (alone F o) r.0 c h.0 (subst (λ (T : Parts). IsOnSection T z) same on)
 cuts_miss F z (o ∷ os) r (c ∷ cs) h (suc k) S there on = cuts_miss F z os r.1 cs h.1 k S there on
 
-cut_or_fault : (F : FileParts) (z : ℤ) → AllRise F.objects → (cuts : List (Option SliceLoops)) (f : Fault) → AreCuts F z cuts → IsHeightFault F z f → ⊥
+cut_or_fault : (F : FileParts) (z : ℤ) → AllRise F.objects → (cuts : List (Option SliceLoops)) (f : Fault) → AreCuts F z cuts → IsHeightFaultOfAll F z f → ⊥
 cut_or_fault F z r cuts _ is (outside all) = is.some all
 cut_or_fault F z r cuts _ is (on_section k S there on) = cuts_miss F z F.objects r cuts is.each k S there on
 
@@ -90,7 +90,7 @@ pub one_slices : (z : ℤ) (F : FileParts) → AllRise F.objects → IsOne (slic
 one_slices z F r =
     one_pair_lists_of F _
     (λ pss.
-    one_then (IsHeightFault F z) (AreCuts F z) (λ cuts. Tells (cuts_text F.version z F.objects cuts) (sum_by loop_count cuts)) (λ f g t u h k. one_height_fault F z f g h k) (λ cuts f t is h. cut_or_fault F z r cuts f is h)
+    one_then (IsHeightFaultOfAll F z) (AreCuts F z) (λ cuts. Tells (cuts_text F.version z F.objects cuts) (sum_by loop_count cuts)) (λ f g t u h k. one_height_fault F z f g h k) (λ cuts f t is h. cut_or_fault F z r cuts f is h)
     (λ cs ds is has.
     let e = one_cuts F z F.objects r cs ds is.each has.each in
     agree_tells (cuts_text F.version z F.objects cs) (cuts_text F.version z F.objects ds) (sum_by loop_count cs) (sum_by loop_count ds) e.0 e.1))

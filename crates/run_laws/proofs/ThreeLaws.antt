@@ -15,12 +15,12 @@ use Rattle.row_paths.specs.Solutions.{Solution}
 use Rattle.section_core.specs.Parts.{ContourParts, SectionParts, ObjectParts, Parts, FileParts, asked, contours_of}
 use Rattle.section_core.specs.Accepted.{IsAccepted}
 use Rattle.section_core.proofs.OneObject.{parts_in}
-use Rattle.section_edits.specs.Ready.{IsWhole}
+use Rattle.section_edits.specs.Ready.{IsWholeContour}
 use Rattle.section_edits.proofs.Lawful.{ready}
 use Rattle.correspondence.specs.Contours.{contour_at}
 use Rattle.correspondence.specs.Nesting.{depth, first_id, is_turned, oriented, ring_at, ring_from, turned}
 use Rattle.correspondence.proofs.Nested.{length-turned}
-use Rattle.correspondence.specs.Outlines.{layer, layer_at, point_at}
+use Rattle.correspondence.specs.Outlines.{layer, layer_at, spot_point}
 use Rattle.ring_polygons.proofs.BridgeLaws.{IsRingView}
 use Rattle.ring_polygons.specs.declared.faces.Face.{Face}
 use Rattle.ring_polygons.specs.declared.faces.Face.TheVariants.{Below, Above}
@@ -77,17 +77,17 @@ enough n (negsuc k) e l = absurd (omega (arith, ints))
 abbrev AreLong : List (List Point) → Type 0
 AreLong outlines = AllByRecursion (λ points. 3 ≤ length points) outlines
 
-long_outlines : (z : ℤ) (cs : List ContourParts) → AllByRecursion IsWhole cs → AreLong (map (λ (c : ContourParts). map (point_at z) c.points) cs)
+long_outlines : (z : ℤ) (cs : List ContourParts) → AllByRecursion IsWholeContour cs → AreLong (map (λ (c : ContourParts). map (spot_point z) c.points) cs)
 long_outlines z [] h = tt
 long_outlines z (c ∷ cs) h = (
-  let l : 3 ≤ length c.points = enough (length c.points) c.count h.0.0.1 h.0.1 in omega (arith, l, length-map c.points (point_at z)),
+  let l : 3 ≤ length c.points = enough (length c.points) c.count h.0.0.1 h.0.1 in omega (arith, l, length-map c.points (spot_point z)),
   long_outlines z cs h.1,
 )
 
-long_layers : (ss : List SectionParts) (s : ℕ) → AllByRecursion IsWhole (contours_of ss) → AreLong (layer (slice_index_or ss s (record { z = pos 0; contours = [] }))).outlines
+long_layers : (ss : List SectionParts) (s : ℕ) → AllByRecursion IsWholeContour (contours_of ss) → AreLong (layer (slice_index_or ss s (record { z = pos 0; contours = [] }))).outlines
 long_layers [] s h = tt
-long_layers (x ∷ ss) zero h = long_outlines x.z x.contours (all_front IsWhole x.contours (contours_of ss) h)
-long_layers (x ∷ ss) (suc s) h = long_layers ss s (all_rest IsWhole x.contours (contours_of ss) h)
+long_layers (x ∷ ss) zero h = long_outlines x.z x.contours (all_front IsWholeContour x.contours (contours_of ss) h)
+long_layers (x ∷ ss) (suc s) h = long_layers ss s (all_rest IsWholeContour x.contours (contours_of ss) h)
 
 ring_views : (S : Parts) → IsAccepted S → AreRingViews S
 ring_views S a = record {

@@ -29,9 +29,9 @@ use Rattle.pair_commands.specs.Tilings.{tilings, tilings_text}
 use Rattle.surface_commands.specs.Reconstruct.{reconstruct}
 use Rattle.surface_commands.specs.Report.{Reports, report}
 use Rattle.surface_commands.specs.RingCaps.{IsRingSurfaceOf, ring_caps}
-use Rattle.surface_commands.specs.Slice.{AreCuts, IsHeightFault, cuts_text, slice}
+use Rattle.surface_commands.specs.Slice.{AreCuts, IsHeightFaultOfAll, cuts_text, slice}
 use Rattle.surface_cli.specs.Out.{IsOut, IsOutOf, reply_of}
-use Rattle.surface_cli.specs.Run.{IsRun, IsWithin, Outside}
+use Rattle.surface_cli.specs.Run.{IsRun, IsInputWithin, Outside}
 use Rattle.surface_cli.specs.Headline.{AsksFor}
 use Rattle.run_laws.specs.Laws.{Fits, IsValidInput, certify_fits, reconstruct_fits, report_fits, ring_caps_fit, slice_fits, tilings_fit}
 use Rattle.run_laws.proofs.TextLaws.{one_reading, read_or_refused}
@@ -74,11 +74,11 @@ report_told F never = passed (IsFoundIn F) (IsSurfaceOf F) (Reports [] (all_sect
 rings_told : (F : FileParts) → ((f : Fault) → IsRingFoundIn F f → ⊥) → AlwaysTells (ring_caps byu_of F)
 rings_told F never = passed (IsRingFoundIn F) (IsRingSurfaceOf F) (λ b. Tells (byu_of (surface_of b.mesh)) b.pairs) never (λ b is. tells (byu_of (surface_of b.mesh)) b.pairs)
 
-slice_told : (z : ℤ) (F : FileParts) → ((f : Fault) → IsFoundIn F f → ⊥) → ((f : Fault) → IsHeightFault F z f → ⊥) → AlwaysTells (slice z F)
+slice_told : (z : ℤ) (F : FileParts) → ((f : Fault) → IsFoundIn F f → ⊥) → ((f : Fault) → IsHeightFaultOfAll F z f → ⊥) → AlwaysTells (slice z F)
 slice_told z F never good =
     let told : List (Option SliceLoops) → Reply → Type 0 = λ cuts. Tells (cuts_text F.version z F.objects cuts) (sum_by loop_count cuts) in
-    passed (IsFoundIn F) (AreAllPairs F) (λ pss. Then (IsHeightFault F z) (AreCuts F z) told) never
-    (λ pss is. passed (IsHeightFault F z) (AreCuts F z) told good (λ cuts are. tells (cuts_text F.version z F.objects cuts) (sum_by loop_count cuts)))
+    passed (IsFoundIn F) (AreAllPairs F) (λ pss. Then (IsHeightFaultOfAll F z) (AreCuts F z) told) never
+    (λ pss is. passed (IsHeightFaultOfAll F z) (AreCuts F z) told good (λ cuts are. tells (cuts_text F.version z F.objects cuts) (sum_by loop_count cuts)))
 
 -- all counts of pairs are equal
 pub as_many : (F : FileParts) (ps qs : List PairParts) → AreNumbered F ps → AreNumbered F qs → ps ≡ qs
@@ -92,7 +92,7 @@ certify_told k F ps never are few =
     (λ p has. passed NoFault (Solves p.strip) (TellsCert k p.strip) (λ f l. l) (λ s solves reply t h. subst IsTold (sym h.tells) tt)))
 
 -- the reply for a valid input is a text
-valid_told : (command : Command) (input : List ℕ) (F : FileParts) → IsWithin command input → IsTextOfFile input F → ((f : Fault) → IsFoundIn F f → ⊥) → Fits F command
+valid_told : (command : Command) (input : List ℕ) (F : FileParts) → IsInputWithin command input → IsTextOfFile input F → ((f : Fault) → IsFoundIn F f → ⊥) → Fits F command
     → AlwaysTells (reply_of command input)
 valid_told command input F within read never tilings_fit = objects_told tilings MAX_INPUT_BYTES input F within read (tilings_told F never)
 valid_told command input F within read never reconstruct_fits = objects_told (reconstruct byu_of) MAX_INPUT_BYTES input F within read (reconstruct_told F never)

@@ -43,7 +43,7 @@ use Rattle.section_slices.proofs.OneDensified.{one_densified}
 use Rattle.command_replies.specs.Reply.{told, refused, refused_after, fails, goes_on}
 use Rattle.command_replies.specs.Stages.AreSeveral.{found, too_many}
 use Rattle.surface_commands.specs.Densify.{AreMiddleWords, Densifies, IsDensifiedText, densify, densify_sections, middle_words}
-use Rattle.surface_commands.specs.Edit.{Answer, Editing, IsCount, IsEditing, IsTooMany, StandsFor, edit, edit_sections, edits_text, on_edits}
+use Rattle.surface_commands.specs.Edit.{LineAnswer, Editing, IsPairCount, IsEditing, IsTooMany, StandsFor, edit, edit_sections, edits_text, on_edits}
 use Rattle.run_laws.proofs.WorkedSurfaceRules.{AreSquares, byu, file, one_surface, written}
 
 -- ---- densify: squares that no link joins have no pair, so their gap stays as it is
@@ -192,18 +192,18 @@ lines_stand_for_one = ((λ h. h move move_read), bad_read, other_vertex, other_e
     other_edit h = let e : gone ≡ move = one_edit remove_line gone move remove_read.0 h.0 in absurd (cc)
 
 -- the one pair of the squares has its points as before, so it is reused
-pair_reused : IsCount squares squares (record { solved = 0; reused = 1 })
+pair_reused : IsPairCount squares squares (record { solved = 0; reused = 1 })
 pair_reused = record { before = pair ∷ []; pairs_before = squares_paired; after = pair ∷ []; pairs_after = squares_paired; counts = record { solved = refl; reused = refl } }
 
 -- it is not counted as new
-not_solved_anew : IsCount squares squares (record { solved = 1; reused = 0 }) → ⊥
+not_solved_anew : IsPairCount squares squares (record { solved = 1; reused = 0 }) → ⊥
 not_solved_anew h =
     let before = one_pairs squares h.before (pair ∷ []) h.pairs_before squares_paired in
     let after = one_pairs squares h.after (pair ∷ []) h.pairs_after squares_paired in
     let none : fresh (strips_in h.before) (strips_in h.after) ≡ 0 = ap₂ (λ (ps qs : List PairParts). fresh (strips_in ps) (strips_in qs)) before after in
     omega (arith, h.counts.solved, none)
 
-abbrev answers : List Answer
+abbrev answers : List LineAnswer
 answers = Ok (record { solved = 0; reused = 1 }) ∷ Err EditForm ∷ Err (NoVertex (codes "a") 9) ∷ []
 
 abbrev pub editing : Editing

@@ -14,7 +14,7 @@ use Rattle.surface_core.proofs.StripSteps.{are_least}
 use Rattle.ring_caps.specs.Groups.{parent}
 use Rattle.ring_caps.specs.RingSurfaces.{IsRingSurface}
 use Rattle.surface_cli.specs.declared.commands.Command.TheVariants.{Tilings}
-use Rattle.surface_cli.specs.Headline.{AreAcceptable, AsksFor, AsksForRingSurface, AsksForSurface, IsLeast, IsLeastClosedSurface, IsLeastRingSurface}
+use Rattle.surface_cli.specs.Headline.{AreAcceptable, AsksFor, AsksForRingSurface, AsksForSurface, IsLeastMesh, IsLeastClosedSurface, IsLeastRingSurface}
 use Rattle.run_laws.proofs.WorkedSurfaceRules.{byu, file, made, mesh, mesh_closed, pair_solved, read, squares_text, written}
 use Rattle.run_laws.proofs.WorkedRuns.{reconstruct_meaning, ringcaps_meaning, ringcaps_words, reconstruct_words, tilings_meaning, tilings_words}
 
@@ -27,7 +27,7 @@ acceptable = record {
 }
 
 -- the mesh is made of the squares and of this tiling, and no tiling costs less
-least : IsLeast IsSurface squares mesh
+least : IsLeastMesh IsSurface squares mesh
 least = record {
   pairs = pair ∷ [];
   are_pairs = squares_paired;
@@ -38,7 +38,7 @@ least = record {
 }
 
 -- with caps of groups it is the same, as squares have no holes
-ring_least : IsLeast IsRingSurface squares mesh
+ring_least : IsLeastMesh IsRingSurface squares mesh
 unfolding parent oriented ring_from depth is_inside least_bridge distance_square square is_ear places_by
 ring_least = record {
   pairs = pair ∷ [];

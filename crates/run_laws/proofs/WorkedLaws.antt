@@ -14,7 +14,7 @@ use Rattle.surface_cli.specs.Words.{meaning, where_taken}
 use Rattle.surface_cli.specs.declared.commands.Command.{Command}
 use Rattle.surface_cli.specs.declared.commands.Command.TheVariants.{Certify, Slice, Tilings}
 use Rattle.command_replies.specs.Stages.{IsSurfaceOf}
-use Rattle.surface_cli.specs.Run.{IsWithin}
+use Rattle.surface_cli.specs.Run.{IsInputWithin}
 use Rattle.run_laws.specs.Laws.{AreEditsOf, EndsLine, Fits, IsListedCost, IsSurfaceText, IsValidInput, certify_fits, command_of, slice_fits, tilings_fit}
 use Rattle.run_laws.proofs.WorkedEditRules.{edited_text, editing, is_editing, tail}
 use Rattle.run_laws.proofs.WorkedPairRules.{numbered_pairs, squares_tilings}
@@ -33,7 +33,7 @@ commands = refl
 faultless : (f : Fault) → IsFoundIn file f → ⊥
 faultless f h = objects_paired_or_found file ((pair ∷ []) ∷ []) f (squares_paired, tt) h
 
-valid : (command : Command) → IsWithin command squares_text → Fits file command → IsValidInput command squares_text
+valid : (command : Command) → IsInputWithin command squares_text → Fits file command → IsValidInput command squares_text
 valid command within fits = record { within = within; objects = file; read = read; faultless = faultless; fits = fits }
 
 squares_valid : IsValidInput Tilings squares_text × IsValidInput (Certify 1) squares_text × IsValidInput (Slice (pos 5)) squares_text

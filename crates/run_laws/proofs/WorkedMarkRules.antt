@@ -23,7 +23,7 @@ use Rattle.landmarks.specs.declared.marks.Mark.{Mark}
 use Rattle.landmarks.specs.declared.marks.MarkFault.TheVariants.{NoSpan}
 use Rattle.landmarks.specs.declared.pieces.Piece.{Piece}
 use Rattle.landmarks.specs.declared.pieces.Marked.{Marked}
-use Rattle.landmarks.specs.Faults.{mark_at, ShareLine, GoAcross, IsGood, AreGood}
+use Rattle.landmarks.specs.Faults.{mark_at, ShareLine, GoAcross, IsGood, AreSoundMarks}
 use Rattle.landmarks.specs.Pieces.{IsLeastPiece}
 use Rattle.landmarks.specs.Chains.{IsByRow, ArePieces}
 use Rattle.landmarks.proofs.ChainLaws.{made_solves}
@@ -74,7 +74,7 @@ apart_straight : (e : ℕ) → e < 1 → GoAcross 4 4 (span 2 2) (mark_at (span 
 apart_straight zero b s = elim s [ inl d ↦ omega (arith, d.1) | inr d ↦ omega (arith, d.0) ]
 apart_straight (suc e) b s = omega (arith, b)
 
-two_good_spans : AreGood 4 4 (span 2 2 ∷ span 0 0 ∷ [])
+two_good_spans : AreSoundMarks 4 4 (span 2 2 ∷ span 0 0 ∷ [])
 two_good_spans = record { some = omega arith; few = omega arith; good = each }
   where
     each : (q : ℕ) → q < 2 → IsGood 4 4 (span 2 2 ∷ span 0 0 ∷ []) q

@@ -28,7 +28,7 @@ use Rattle.cert_checker.specs.declared.certs.CertText.{CertText}
 use Rattle.cert_checker.specs.declared.certs.Verdict.{Verdict}
 use Rattle.cert_checker.specs.declared.certs.Verdict.TheVariants.{Accept, Size, Word, Cost, Arc, Turn}
 use Rattle.cert_checker.specs.CertTexts.{cert_text}
-use Rattle.cert_checker.specs.CertReading.{ReadsAs, kept_behind}
+use Rattle.cert_checker.specs.CertReading.{ReadsAsCertificate, kept_behind}
 use Rattle.cert_checker.specs.Verdicts.{Holds, IsVerdict}
 use Rattle.section_pairs.proofs.WorkedSquares.{corner, pair, squares_paired}
 use Rattle.command_replies.specs.Reply.{told, goes_on}
@@ -116,7 +116,7 @@ printed : cert_text (certificate 1 pair.strip squares_solution numbers) ≡ squa
 unfolding digits
 printed = refl
 
-read_back : (passed : ℕ) → ReadsAs (kept_behind passed squares_cert) (certificate 1 pair.strip squares_solution numbers)
+read_back : (passed : ℕ) → ReadsAsCertificate (kept_behind passed squares_cert) (certificate 1 pair.strip squares_solution numbers)
 read_back passed = record {
   lawful = lawful_certificate 1 pair.strip squares_solution numbers (omega arith) (omega arith) is_strip squares_certified;
   match = ((refl, (refl, (refl, (refl, (refl, (refl, (refl, (refl, (refl, (refl, (refl, (refl, tt)))))))))))), ((refl, (refl, tt)), ((refl, (refl, (refl, (refl, (refl, tt))))), ((refl, (refl, (refl, (refl, (refl, tt))))), ((refl, (refl, (refl, (refl, (refl, tt))))), ((refl, (refl, (refl, (refl, (refl, tt))))), ((refl, (refl, (refl, (refl, (refl, tt))))), ((refl, (refl, (refl, (refl, (refl, tt))))), ((refl, (refl, (refl, (refl, (refl, tt))))), ((refl, (refl, (refl, (refl, (refl, tt))))), ((refl, tt), tt)))))))))));
@@ -127,7 +127,7 @@ tells_cert = record {
   values = numbers;
   potential = squares_rows;
   holds = squares_certified;
-  reads = λ passed. subst (λ (b : List ℕ). ReadsAs (kept_behind passed b) (certificate 1 pair.strip squares_solution numbers)) (sym printed) (read_back passed);
+  reads = λ passed. subst (λ (b : List ℕ). ReadsAsCertificate (kept_behind passed b) (certificate 1 pair.strip squares_solution numbers)) (sym printed) (read_back passed);
   tells = ap (λ (b : List ℕ). told b 1) (sym printed);
 }
 

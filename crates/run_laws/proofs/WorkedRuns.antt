@@ -17,7 +17,7 @@ use Rattle.command_replies.specs.declared.status.Status.{Status}
 use Rattle.command_replies.specs.declared.status.Status.TheVariants.{Done, BadWords, WriteFault}
 use Rattle.command_replies.specs.Reply.{told, goes_on}
 use Rattle.command_replies.specs.Stages.{IsFront}
-use Rattle.surface_cli.specs.Run.{Counts, IsInput, IsRun, IsToDensify, IsWork, Outside, Raises, Reads, ReadsToEnd, SetsWorkers, WritesFront, WritesWhole, workers_of}
+use Rattle.surface_cli.specs.Run.{CountsPairs, IsInput, IsRun, IsToDensify, IsWork, Outside, Raises, ReadsInput, ReadsToEnd, SetsWorkers, WritesFront, WritesWhole, workers_of}
 use Rattle.surface_cli.proofs.RunLemmas.{ends_reading, is_run}
 use Rattle.run_laws.proofs.WorkedSurfaceRules.{AreSquares, byu, file, read, reconstruct_squares, squares_text}
 use Rattle.run_laws.proofs.WorkedPairRules.{squares_tilings, tilings_of_squares}
@@ -104,7 +104,7 @@ abbrev tiled : List ℕ → Outside
 tiled text = without_fault squares_text [] text
 
 same_input : (input : List ℕ) → IsInput tilings_words (Some squares_text) input → squares_text ≡ input
-same_input input given = let e : Some squares_text ≡ Some input = given (subst Reads (sym tilings_meaning) refl) in cc
+same_input input given = let e : Some squares_text ≡ Some input = given (subst ReadsInput (sym tilings_meaning) refl) in cc
 
 -- the whole tiling after what was written before
 whole_tiling : WritesWhole tilings_words (tiled squares_tilings) Done
@@ -136,7 +136,7 @@ cut_off_run = is_run tilings_words cut_off WriteFault (omega arith, front_of_the
 raised : Raises tilings_words squares_text 5 6 Done
 raised = (squares_tilings, 1, tilings_out, refl)
 
-counts : Counts tilings_words (Some squares_text) 5 6 Done
+counts : CountsPairs tilings_words (Some squares_text) 5 6 Done
 counts input given = subst (λ (i : List ℕ). Raises tilings_words i 5 6 Done) (same_input input given) raised
 
 -- `densify` is to densify

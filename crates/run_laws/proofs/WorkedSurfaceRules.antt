@@ -34,7 +34,7 @@ use Rattle.triangle_meshes.proofs.Validity.{valid_from_test}
 use Rattle.triangle_meshes.specs.Volumes.{six_volume}
 use Rattle.triangle_meshes.proofs.Anywhere.{HasThree, volume_anywhere}
 use Rattle.byu_text.specs.Byu.{byu_of}
-use Rattle.byu_text.specs.Reading.{ReadsAs}
+use Rattle.byu_text.specs.Reading.{ReadsAsMesh}
 use Rattle.section_pairs.specs.Pairs.{IsShort}
 use Rattle.section_pairs.proofs.Worked.{squares}
 use Rattle.section_pairs.proofs.WorkedSquares.{corner, pair, squares_paired}
@@ -53,9 +53,9 @@ use Rattle.command_replies.specs.Reply.{told, goes_on}
 use Rattle.command_replies.specs.Stages.{IsSurfaceOf, IsSurfaceOfOne}
 use Rattle.surface_commands.specs.Count.{TellsCounts, count}
 use Rattle.surface_commands.specs.Reconstruct.{reconstruct}
-use Rattle.surface_commands.specs.Report.{demo_report, measures_text, report, report_text, sizes_text}
+use Rattle.surface_commands.specs.Report.{demo_report, four_measures, report, report_text, sizes_text}
 use Rattle.surface_commands.specs.RingCaps.{IsRingSurfaceOf, ring_caps}
-use Rattle.surface_commands.specs.Slice.{AreCuts, IsHeightFault, cuts_text, outside, on_section, slice}
+use Rattle.surface_commands.specs.Slice.{AreCuts, IsHeightFaultOfAll, cuts_text, outside, on_section, slice}
 
 -- equal texts and equal numbers are the same reply
 pub told_as : {s t : List ℕ} {m n : ℕ} → s ≡ t → m ≡ n → told s m ≡ told t n
@@ -80,7 +80,7 @@ closed_told = record { closed = true; says = ((λ e. both_closed), λ h. refl); 
 abbrev pub both_byu : List ℕ
 both_byu = codes "       1       3       2       6\n" ++ (codes "       1       2\n" ++ (codes " 0.00000E+00 0.00000E+00 0.00000E+00 1.00000E+01 0.00000E+00 0.00000E+00\n" ++ (codes " 0.00000E+00 1.00000E+01 0.00000E+00\n" ++ (codes "       1       2      -3\n" ++ codes "       1       3      -2\n"))))
 
-both_read : ReadsAs both_byu both
+both_read : ReadsAsMesh both_byu both
 unfolding digits
 both_read = record {
   mesh = record {
@@ -273,7 +273,7 @@ abbrev pub eight_lines : List ℕ
 eight_lines = codes "SECTIONS 2\nCONTOURS 2\nVERTICES 8\nTRIANGLES 12\nFOLDED 0\nPAIRS 1\nCOST 1200\nSIXVOLUME 6000\n"
 
 abbrev text_from : Surface → ℕ → ℕ → ℤ → List ℕ
-text_from m folded pairs cost = sizes_text 2 2 (length m.vertices) (sum_by length m.parts) ++ measures_text folded pairs cost (six_volume m origin)
+text_from m folded pairs cost = sizes_text 2 2 (length m.vertices) (sum_by length m.parts) ++ four_measures folded pairs cost (six_volume m origin)
 
 counted : text_from mesh 0 1 (pos 1200) ≡ eight_lines
 unfolding digits
@@ -319,13 +319,13 @@ not_on_section (suc zero, l, e) = absurd (omega (arith, ints, e))
 not_on_section (suc (suc k), l, e) = absurd (omega (arith, l))
 
 -- a height below all sections is outside, and that of a section is on it
-no_slice : IsHeightFault file (negsuc 0) (Outside (negsuc 0)) × IsHeightFault file (pos 10) (OnSection (pos 10))
+no_slice : IsHeightFaultOfAll file (negsuc 0) (Outside (negsuc 0)) × IsHeightFaultOfAll file (pos 10) (OnSection (pos 10))
 no_slice = (
   outside (All-cons (λ (S : Parts). IsOutside S (negsuc 0)) squares [] below_all (All-nil (λ (S : Parts). IsOutside S (negsuc 0)))),
   on_section 0 squares refl (1, omega arith, refl),
 )
 
-pub no_fault_between : (fault : Fault) → IsHeightFault file (pos 5) fault → ⊥
+pub no_fault_between : (fault : Fault) → IsHeightFaultOfAll file (pos 5) fault → ⊥
 no_fault_between _ (outside all) = not_outside (all 0 squares (omega arith))
 no_fault_between _ (on_section zero S there on) = let same : squares ≡ S = cc in not_on_section (subst (λ (T : Parts). IsOnSection T (pos 5)) (sym same) on)
 no_fault_between _ (on_section (suc k) S there on) = absurd (cc)

@@ -21,8 +21,8 @@ use Rattle.surface_cli.specs.declared.words.Task.{Task}
 use Rattle.command_replies.specs.Stages.{AreNumbered, IsFront, IsOnly}
 use Rattle.pair_commands.specs.Tilings.{tilings_text}
 use Rattle.surface_commands.specs.Edit.{Editing, IsEditing, answers_text}
-use Rattle.surface_commands.specs.Slice.{IsHeightFault}
-use Rattle.surface_cli.specs.Run.{IsWithin}
+use Rattle.surface_commands.specs.Slice.{IsHeightFaultOfAll}
+use Rattle.surface_cli.specs.Run.{IsInputWithin}
 
 -- the command that words ask for, with any number of workers; none for a usage error
 abbrev pub command_of : List (List ℕ) → Option Command
@@ -34,13 +34,13 @@ pub data Fits (F : FileParts) : Command → Type 0 where
   tilings_fit : Fits F Tilings
   reconstruct_fits : Fits F Reconstruct
   report_fits : Fits F Report
-  slice_fits : (z : ℤ) → ((fault : Fault) → IsHeightFault F z fault → ⊥) → Fits F (Slice z)
+  slice_fits : (z : ℤ) → ((fault : Fault) → IsHeightFaultOfAll F z fault → ⊥) → Fits F (Slice z)
   certify_fits : (k : ℕ) (pairs : List PairParts) → AreNumbered F pairs → k ≤ length pairs → Fits F (Certify k)
   ring_caps_fit : ((fault : Fault) → IsRingFoundIn F fault → ⊥) → Fits F RingCaps
 
 -- A valid input of a command: a section text within the limit, whose objects have no fault and fit the command.
 pub record IsValidInput (command : Command) (input : List ℕ) : Type 0 where
-  pub within : IsWithin command input
+  pub within : IsInputWithin command input
   pub objects : FileParts
   pub read : IsTextOfFile input objects
   pub faultless : (fault : Fault) → IsFoundIn objects fault → ⊥

@@ -9,7 +9,7 @@ use Rattle.fku_types.specs.declared.points.Point.{Point}
 use Rattle.fku_types.specs.declared.fault.Fault.TheVariants.{Crossing, SelfCrossing, EndMissing}
 use Rattle.plane_geom.specs.Rings.{around}
 use Rattle.plane_geom.specs.Segments.{SharePoint}
-use Rattle.plane_geom.specs.Signs.{Overlap}
+use Rattle.plane_geom.specs.Signs.{RangesOverlap}
 use Rattle.plane_geom.proofs.SharedSigns.{overlap_of}
 use Rattle.correspondence.specs.Pairs.{FirstPair}
 use Rattle.correspondence.specs.Apart.{Touch, ContoursTouch, AreApart, AreCrossing, IsCrossing}
@@ -27,7 +27,7 @@ abbrev between : List Point
 between = at 4 0 ∷ at 10 0 ∷ at 7 9 ∷ []
 
 -- their ranges in x have no common number
-beside : (a b c d : Point) → SharePoint a b c d → Overlap a.x b.x c.x d.x
+beside : (a b c d : Point) → SharePoint a b c d → RangesOverlap a.x b.x c.x d.x
 beside a b c d h = overlap_of h.s h.t h.e a.x b.x c.x d.x h.at.positive h.at.on_first h.at.on_second h.at.x
 
 apart : Touch left right → ⊥

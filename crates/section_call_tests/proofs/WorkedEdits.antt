@@ -22,7 +22,7 @@ use Rattle.text_io.specs.WordLists.{text, number, Matches}
 use Rattle.section_edits.specs.Lines.{InRange, IsName, IsIndex, IsSpotInRange, IsNoEdit, spot_words, IsLineFault}
 use Rattle.section_edits.specs.Reading.{IsReading}
 use Rattle.section_edits.specs.Changes.{contour_with, without, changed}
-use Rattle.section_edits.specs.Refusals.{first_of, IsLateRefusal, IsRefusal, Answers}
+use Rattle.section_edits.specs.Refusals.{first_of, IsLateRefusal, IsRefusal, AnswersOrRefuses}
 use Rattle.section_edits.specs.LateTests.{late_tests}
 use Rattle.section_edits.proofs.Wording.{move_only, insert_only, remove_only, add_only, drop_only, none_of, nothing}
 
@@ -316,5 +316,5 @@ own_first = (
 abbrev Is : Option EditFault → Option EditFault → Type 0
 Is o p = p ≡ o
 
-answers : Answers {T = ℕ} (Is None) (Ok 7) (λ n. n ≡ 7) × (Answers {T = ℕ} (Is None) (Ok 8) (λ n. n ≡ 7) → ⊥) × (Answers {T = ℕ} (Is (Some EditForm)) (Ok 7) (λ n. n ≡ 7) → ⊥) × Answers {T = ℕ} (Is None) (Err NoMemory) (λ n. n ≡ 7) × (Answers {T = ℕ} (Is None) (Err EditForm) (λ n. n ≡ 7) → ⊥) × Answers {T = ℕ} (Is (Some EditForm)) (Err EditForm) (λ n. n ≡ 7) × (Answers {T = ℕ} (Is (Some EditForm)) (Err (Found EndMissing)) (λ n. n ≡ 7) → ⊥)
+answers : AnswersOrRefuses {T = ℕ} (Is None) (Ok 7) (λ n. n ≡ 7) × (AnswersOrRefuses {T = ℕ} (Is None) (Ok 8) (λ n. n ≡ 7) → ⊥) × (AnswersOrRefuses {T = ℕ} (Is (Some EditForm)) (Ok 7) (λ n. n ≡ 7) → ⊥) × AnswersOrRefuses {T = ℕ} (Is None) (Err NoMemory) (λ n. n ≡ 7) × (AnswersOrRefuses {T = ℕ} (Is None) (Err EditForm) (λ n. n ≡ 7) → ⊥) × AnswersOrRefuses {T = ℕ} (Is (Some EditForm)) (Err EditForm) (λ n. n ≡ 7) × (AnswersOrRefuses {T = ℕ} (Is (Some EditForm)) (Err (Found EndMissing)) (λ n. n ≡ 7) → ⊥)
 answers = ((refl, refl), (λ h. omega (arith, h.1)), (λ h. let e : None ≡ Some EditForm = h.0 in absurd (cc)), tt, (λ h. let e : Some EditForm ≡ None = h in absurd (cc)), refl, λ h. let e : Some (Found EndMissing) ≡ Some EditForm = h in absurd (cc))

@@ -13,7 +13,7 @@ use Rattle.section_core.specs.declared.parts.Link.{Link}
 use Rattle.section_core.specs.Parts.{Spot, ContourParts, SectionParts, LinkParts, area, mix}
 use Rattle.section_core.specs.Costs.{cost_parts, cost_rule}
 use Rattle.section_core.specs.Views.{spot_of, contour_parts, section_parts, link_parts}
-use Rattle.section_core.specs.Flat.{IsLevel, IsFlat, AreFlat}
+use Rattle.section_core.specs.Flat.{IsAtHeight, IsFlat, AreFlat}
 use Rattle.section_core.specs.Finished.{ended_parts}
 use Rattle.section_core.specs.Machine.{cost_is, section, contour, point, link}
 use Rattle.section_core.specs.Made.{whole, askew, point_piece, pieces_of, nothing, facts_after}
@@ -58,7 +58,7 @@ ended : (v : Vec ℕ Global) → ended_parts area Links (holds v (pos 5) (triang
 ended v = refl
 
 -- each point at the height
-level : (v : Vec ℕ Global) → IsLevel (pos 5) (triangle v (codes "a") (pos 5))
+level : (v : Vec ℕ Global) → IsAtHeight (pos 5) (triangle v (codes "a") (pos 5))
 level v = (refl, (refl, (refl, tt)))
 
 flat : (v : Vec ℕ Global) → IsFlat (holds v (pos 5) (triangle v (codes "a") (pos 5)))

@@ -23,7 +23,7 @@ use Rattle.section_pairs.specs.Pairs.{AreGaps, IsShort}
 use Rattle.correspondence.specs.Simple.{IsSimple}
 use Rattle.correspondence.specs.Simple.AgainstRule.{following, closing, distant}
 use Rattle.correspondence.specs.Apart.{Touch}
-use Rattle.section_pairs.specs.SectionFaults.{IsSimpleContour, IsApartSection, HasCrossing, IsLaterFault, IsContourFault, IsSideFault, IsFound, contours_of}
+use Rattle.section_pairs.specs.SectionFaults.{IsSimpleContour, IsApartSection, HasCrossing, IsLaterFault, IsContourFault, IsSideFault, IsFound, data_contours}
 use Rattle.section_pairs.proofs.Worked.{straight}
 use Rattle.section_pairs.proofs.OneContours.{one_gap}
 
@@ -64,7 +64,7 @@ below = (pos 0, (codes "a", triangle_from 0 0) ∷ [])
 abbrev above : SectionData
 above = (pos 5, (codes "b", triangle_from 0 5) ∷ (codes "c", triangle_from 4 5) ∷ [])
 
-all_simple : All IsSimpleContour (contours_of (below ∷ above ∷ []))
+all_simple : All IsSimpleContour (data_contours (below ∷ above ∷ []))
 all_simple =
     All-cons IsSimpleContour (codes "a", triangle_from 0 0) ((codes "b", triangle_from 0 5) ∷ (codes "c", triangle_from 4 5) ∷ []) (simple _ _ _ refl refl refl)
     (All-cons IsSimpleContour (codes "b", triangle_from 0 5) ((codes "c", triangle_from 4 5) ∷ []) (simple _ _ _ refl refl refl)

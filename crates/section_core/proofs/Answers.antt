@@ -15,7 +15,7 @@ use Rattle.section_core.specs.Laws.{Law, facts, KeepsAll, BreaksFirst, law_order
 use Rattle.section_core.specs.Reading.{Breach, Breaks, HasFile, HasContour, EndsTooSoon, HasNoEnd, is_filled}
 use Rattle.section_core.specs.Machine.{Item, finish, item_line, item_of, file_items, Body, is_whole, State, at_version, at_cost, at_rule, no_object, in_object, ended, inside, advance, parts_of}
 use Rattle.section_core.specs.Steps.{after, first_broken}
-use Rattle.section_core.specs.Reader.{checked, judged, take_item, judge, AnswerOf, front_is, no_contours, at_fault, too_soon, goes_on, read_file, HoldsFile, first_object, one_object, read_from, Holds}
+use Rattle.section_core.specs.Reader.{checked, judged, take_item, judge, AnswerOf, front_is, no_contours, at_fault, too_soon, goes_on, read_file, HoldsFile, first_object, one_object, read_from, HoldsAnswer}
 use Rattle.section_core.proofs.SoFar.{so_far-run, some_is, if_some}
 use Rattle.fku_types.proofs.ListLaws.{all_join}
 use Rattle.section_core.proofs.Lines.{items-lines}
@@ -159,7 +159,7 @@ unfilled_one S e = none (contours_of S.sections) e
     none [] e = refl
     none (c ∷ cs) e = let t : nat_lt 0 (length (c ∷ cs)) ≡ true = grind (arith, nat_tests) in absurd (false≢true (sym e ∙ ap (λ (b : Bool). b && true) t))
 
-one_holds : (kept : List Kept) (a : AnswerOf FileParts) → HoldsFile One kept a → Holds kept (one_object a)
+one_holds : (kept : List Kept) (a : AnswerOf FileParts) → HoldsFile One kept a → HoldsAnswer kept (one_object a)
 one_holds kept (front_is F tail) h =
     let is = one_file F h.0.is_file h.0.known in
     (subst (λ (G : FileParts). HasFile One kept G tail) is h.0, filled_one (first_object F.objects F) (ap is_filled (sym is) ∙ h.1))
@@ -170,5 +170,5 @@ one_holds kept (at_fault breach n) h = h
 one_holds kept too_soon h = h
 
 -- the same where only version 1 is read
-pub read_holds : (kept : List Kept) → Holds kept (read_from at_version kept)
+pub read_holds : (kept : List Kept) → HoldsAnswer kept (read_from at_version kept)
 read_holds kept = one_holds kept (read_file One at_version kept) (file_holds One kept)

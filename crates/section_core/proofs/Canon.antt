@@ -13,7 +13,7 @@ use Rattle.fku_types.specs.declared.rules.PairRule.{PairRule}
 use Rattle.fku_types.specs.declared.rules.PairRule.TheVariants.{Overlap, Links}
 use Rattle.section_core.specs.declared.parts.Version.{Version}
 use Rattle.section_core.specs.declared.parts.Version.TheVariants.{One, Two}
-use Rattle.section_core.specs.Parts.{CostParts, span, area, mix, Parts, Spot, ContourParts, SectionParts, LinkParts, ObjectParts, FileParts, IsContour, IsLink, IsLinked, IsFile, AreObjects, is_read, as_file, all_sections, file_lines, version_line, cost_line, name_lines, body_lines, object_lines, point_line, contour_lines, section_lines, link_line, link_lines, end_line, rule_word, contours_of}
+use Rattle.section_core.specs.Parts.{CostParts, span, area, mix, Parts, Spot, ContourParts, SectionParts, LinkParts, ObjectParts, FileParts, IsCountedContour, IsLink, IsLinked, IsFile, AreObjects, is_read, as_file, all_sections, file_lines, version_line, cost_line, name_lines, body_lines, object_lines, point_line, contour_lines, section_lines, link_line, link_lines, end_line, rule_word, contours_of}
 use Rattle.text_io.specs.WordLists.{IsWritableLine}
 use Rattle.text_io.proofs.WrittenLines.{AreClean, IsClean, text_matches}
 use Rattle.fku_types.specs.Points.{IsCoordinate}
@@ -59,7 +59,7 @@ points_ok (p ∷ ps) h = ((omega arith, (small_coordinate p.0 h.0.0, (small_coor
 abbrev IsContourOk : ContourParts → Type 0
 IsContourOk c = (is_name c.name ≡ true) × ((pos 3 ≤ℤ c.count) × (c.count ≤ℤ pos MAX_CONTOUR_VERTICES)) × AllByRecursion IsSpot c.points
 
-contours_good : (cs : List ContourParts) → AllByRecursion IsContour cs → AllByRecursion IsPointCount (map (λ (c : ContourParts). c.count) cs) → AllByRecursion IsSpot (flat_map (λ (c : ContourParts). c.points) cs) → AllByRecursion IsContourOk cs
+contours_good : (cs : List ContourParts) → AllByRecursion IsCountedContour cs → AllByRecursion IsPointCount (map (λ (c : ContourParts). c.count) cs) → AllByRecursion IsSpot (flat_map (λ (c : ContourParts). c.points) cs) → AllByRecursion IsContourOk cs
 contours_good [] h k s = tt
 contours_good (c ∷ cs) h k s =
     let rest = flat_map (λ (d : ContourParts). d.points) cs in

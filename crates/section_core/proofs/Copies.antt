@@ -8,7 +8,7 @@ use Rattle.section_core.specs.declared.parts.Section.{Section}
 use Rattle.fku_types.specs.declared.rules.PairRule.{PairRule}
 use Rattle.section_core.specs.Parts.{CostParts, Parts, ContourParts, SectionParts, LinkParts}
 use Rattle.section_core.specs.Views.{spot_of, contour_parts, section_parts}
-use Rattle.section_core.specs.Flat.{AreFlat, ContourData, SectionData, contour_data, section_data, IsLevel, IsFlat, IsLevelSection}
+use Rattle.section_core.specs.Flat.{AreFlat, ContourData, SectionData, contour_data, section_data, IsAtHeight, IsFlat, IsLevelSection}
 use Rattle.fku_types.proofs.ListLaws.{all_map, all_unmap, all_weaker}
 
 abbrev contour_of : ContourData → ContourParts
@@ -51,7 +51,7 @@ flat-same xs ys e h = flat-from xs (subst (AllByRecursion Flat) (sym e) (flat-to
 
 pub level_same : (a b : Section) → section_data a ≡ section_data b → IsLevelSection b → IsLevelSection a
 level_same a b e h =
-    All-from_recursion (IsLevel a.z) a.contours.items (flat-same (a ∷ []) (b ∷ []) (ap (λ (d : SectionData). d ∷ []) e) (recursion_from_All (IsLevel b.z) b.contours.items h, tt)).0
+    All-from_recursion (IsAtHeight a.z) a.contours.items (flat-same (a ∷ []) (b ∷ []) (ap (λ (d : SectionData). d ∷ []) e) (recursion_from_All (IsAtHeight b.z) b.contours.items h, tt)).0
 
 abbrev record_of : CostParts → PairRule → List SectionParts → List LinkParts → Parts
 record_of cost rule sections links = record { cost = cost; rule = rule; sections = sections; links = links }

@@ -7,7 +7,7 @@ use Rattle.std.proofs.lemmas.List.{map-append}
 use Rattle.fku_types.specs.Names.{is_name}
 use Rattle.section_core.specs.declared.parts.Version.{Version}
 use Rattle.section_core.specs.declared.parts.Version.TheVariants.{One, Two}
-use Rattle.section_core.specs.Parts.{FileParts, ObjectParts, Spot, ContourParts, SectionParts, LinkParts, IsFile, AreObjects, IsContour, IsLink, IsLinked, contours_of, all_sections}
+use Rattle.section_core.specs.Parts.{FileParts, ObjectParts, Spot, ContourParts, SectionParts, LinkParts, IsFile, AreObjects, IsCountedContour, IsLink, IsLinked, contours_of, all_sections}
 use Rattle.text_io.specs.WordLists.{Word, Matches, Line}
 use Rattle.fku_types.specs.declared.rules.PairRule.{PairRule}
 use Rattle.fku_types.specs.declared.rules.PairRule.TheVariants.{Overlap, Links}
@@ -67,17 +67,17 @@ point_items : (ps : List Spot) → AllByRecursion IsItem (map point ps)
 point_items [] = tt
 point_items (p ∷ ps) = (tt, point_items ps)
 
-contour_items-are : (cs : List ContourParts) → AllByRecursion IsContour cs → AllByRecursion IsItem (flat_map contour_items cs)
+contour_items-are : (cs : List ContourParts) → AllByRecursion IsCountedContour cs → AllByRecursion IsItem (flat_map contour_items cs)
 contour_items-are [] h = tt
 contour_items-are (c ∷ cs) h = (h.0.0, all_join IsItem (map point c.points) (flat_map contour_items cs) (point_items c.points) (contour_items-are cs h.1))
 
-section_items-are : (ss : List SectionParts) → AllByRecursion IsContour (contours_of ss) → AllByRecursion IsItem (flat_map section_items ss)
+section_items-are : (ss : List SectionParts) → AllByRecursion IsCountedContour (contours_of ss) → AllByRecursion IsItem (flat_map section_items ss)
 section_items-are [] h = tt
 section_items-are (s ∷ ss) h = (
   tt,
   all_join IsItem (flat_map contour_items s.contours) (flat_map section_items ss)
-      (contour_items-are s.contours (all_front IsContour s.contours (contours_of ss) h))
-      (section_items-are ss (all_rest IsContour s.contours (contours_of ss) h)),
+      (contour_items-are s.contours (all_front IsCountedContour s.contours (contours_of ss) h))
+      (section_items-are ss (all_rest IsCountedContour s.contours (contours_of ss) h)),
 )
 
 link_items-are : (ls : List LinkParts) → AllByRecursion IsLink ls → AllByRecursion IsItem (map link ls)
@@ -88,23 +88,23 @@ link_items-by_rule : (rule : PairRule) (ls : List LinkParts) → IsLinked rule l
 link_items-by_rule Overlap ls h = tt
 link_items-by_rule Links ls h = link_items-are ls h
 
-body_items-are : (rule : PairRule) (ss : List SectionParts) (ls : List LinkParts) → AllByRecursion IsContour (contours_of ss) → IsLinked rule ls → AllByRecursion IsItem (body_items rule ss ls)
+body_items-are : (rule : PairRule) (ss : List SectionParts) (ls : List LinkParts) → AllByRecursion IsCountedContour (contours_of ss) → IsLinked rule ls → AllByRecursion IsItem (body_items rule ss ls)
 body_items-are rule ss ls h k = all_join IsItem (flat_map section_items ss) (link_items rule ls) (section_items-are ss h) (link_items-by_rule rule ls k)
 
 -- the items of objects whose names, where stated, are names
-two_items-are : (rule : PairRule) (os : List ObjectParts) → AllByRecursion (λ (o : ObjectParts). is_name o.name ≡ true) os → AllByRecursion IsContour (contours_of (all_sections os)) → AllByRecursion (λ (o : ObjectParts). IsLinked rule o.links) os → AllByRecursion IsItem (flat_map (object_items Two rule) os)
+two_items-are : (rule : PairRule) (os : List ObjectParts) → AllByRecursion (λ (o : ObjectParts). is_name o.name ≡ true) os → AllByRecursion IsCountedContour (contours_of (all_sections os)) → AllByRecursion (λ (o : ObjectParts). IsLinked rule o.links) os → AllByRecursion IsItem (flat_map (object_items Two rule) os)
 two_items-are rule [] n h k = tt
 two_items-are rule (o ∷ os) n h k =
     let split = contours-split o.sections (all_sections os) h in
     (n.0, all_join IsItem (body_items rule o.sections o.links) (flat_map (object_items Two rule) os) (body_items-are rule o.sections o.links split.0 k.0) (two_items-are rule os n.1 split.1 k.1))
 
-one_items-are : (rule : PairRule) (os : List ObjectParts) → AllByRecursion IsContour (contours_of (all_sections os)) → AllByRecursion (λ (o : ObjectParts). IsLinked rule o.links) os → AllByRecursion IsItem (flat_map (object_items One rule) os)
+one_items-are : (rule : PairRule) (os : List ObjectParts) → AllByRecursion IsCountedContour (contours_of (all_sections os)) → AllByRecursion (λ (o : ObjectParts). IsLinked rule o.links) os → AllByRecursion IsItem (flat_map (object_items One rule) os)
 one_items-are rule [] h k = tt
 one_items-are rule (o ∷ os) h k =
     let split = contours-split o.sections (all_sections os) h in
     all_join IsItem (body_items rule o.sections o.links) (flat_map (object_items One rule) os) (body_items-are rule o.sections o.links split.0 k.0) (one_items-are rule os split.1 k.1)
 
-objects_items-are : (v : Version) (rule : PairRule) (os : List ObjectParts) → AreObjects v os → AllByRecursion IsContour (contours_of (all_sections os)) → AllByRecursion (λ (o : ObjectParts). IsLinked rule o.links) os → AllByRecursion IsItem (flat_map (object_items v rule) os)
+objects_items-are : (v : Version) (rule : PairRule) (os : List ObjectParts) → AreObjects v os → AllByRecursion IsCountedContour (contours_of (all_sections os)) → AllByRecursion (λ (o : ObjectParts). IsLinked rule o.links) os → AllByRecursion IsItem (flat_map (object_items v rule) os)
 objects_items-are One rule os n h k = one_items-are rule os h k
 objects_items-are Two rule os n h k = two_items-are rule os n h k
 

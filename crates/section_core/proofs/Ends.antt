@@ -9,7 +9,7 @@ use Rattle.fku_types.specs.declared.rules.PairRule.{PairRule}
 use Rattle.fku_types.specs.declared.rules.PairRule.TheVariants.{Overlap, Links}
 use Rattle.section_core.specs.declared.parts.Version.{Version}
 use Rattle.section_core.specs.declared.parts.Version.TheVariants.{One, Two}
-use Rattle.section_core.specs.Parts.{CostParts, span, Spot, ContourParts, SectionParts, LinkParts, ObjectParts, FileParts, asked, contours_of, all_sections, IsContour, IsLink, IsLinked, IsFile, AreObjects, is_read, only_name}
+use Rattle.section_core.specs.Parts.{CostParts, span, Spot, ContourParts, SectionParts, LinkParts, ObjectParts, FileParts, asked, contours_of, all_sections, IsCountedContour, IsLink, IsLinked, IsFile, AreObjects, is_read, only_name}
 use Rattle.section_core.specs.Machine.{Item, version, cost_is, rule_is, object, section, contour, point, link, finish, IsItem, Body, bare, in_section, in_contour, in_links, step, linked, opened, sections_of, links_of, object_of, is_whole, State, at_version, at_cost, at_rule, no_object, in_object, ended, begun, inside, advance, run, with_section, with_contour, file_items, parts_of}
 use Rattle.section_core.proofs.SoFar.{so_far, so_far-run, some_is, if_some, inside_cases}
 use Rattle.section_core.proofs.Whole.{run-append, steps, steps_points, steps_run, end_run}
@@ -80,9 +80,9 @@ complete_items w state = so_far-run w state (complete state) (ended (completed s
 -- whole contours are whole, the open one lacks its points, and links are links
 abbrev pub IsSoundBody : PairRule → Body → Type 0
 IsSoundBody rule bare = ⊤
-IsSoundBody rule (in_section front z contours) = AllByRecursion IsContour (contours_of (with_section front z contours))
-IsSoundBody rule (in_contour front z contours name count points missing) = AllByRecursion IsContour (contours_of (with_section front z contours)) × (is_name name ≡ true) × (length points + suc missing ≡ asked count)
-IsSoundBody rule (in_links sections links) = AllByRecursion IsContour (contours_of sections) × IsLinked rule links
+IsSoundBody rule (in_section front z contours) = AllByRecursion IsCountedContour (contours_of (with_section front z contours))
+IsSoundBody rule (in_contour front z contours name count points missing) = AllByRecursion IsCountedContour (contours_of (with_section front z contours)) × (is_name name ≡ true) × (length points + suc missing ≡ asked count)
+IsSoundBody rule (in_links sections links) = AllByRecursion IsCountedContour (contours_of sections) × IsLinked rule links
 
 -- the names are those of the version
 abbrev pub AreNamed : Version → List ObjectParts → List ℕ → Type 0
@@ -94,7 +94,7 @@ IsSound w at_version = ⊤
 IsSound w (at_cost v) = is_read w v ≡ true
 IsSound w (at_rule v cost) = is_read w v ≡ true
 IsSound w (no_object cost rule) = is_read w Two ≡ true
-IsSound w (in_object v cost rule front name body) = (is_read w v ≡ true) × AreNamed v front name × AllByRecursion IsContour (contours_of (all_sections front)) × AllByRecursion (λ (o : ObjectParts). IsLinked rule o.links) front × IsSoundBody rule body
+IsSound w (in_object v cost rule front name body) = (is_read w v ≡ true) × AreNamed v front name × AllByRecursion IsCountedContour (contours_of (all_sections front)) × AllByRecursion (λ (o : ObjectParts). IsLinked rule o.links) front × IsSoundBody rule body
 IsSound w (ended F) = IsFile F × (is_read w F.version ≡ true)
 
 pub contours_of-push : (front : List SectionParts) (z : ℤ) (contours : List ContourParts) → contours_of (with_section front z contours) ≡ contours_of front ++ contours
@@ -104,13 +104,13 @@ pub contours_of-contour : (front : List SectionParts) (z : ℤ) (contours : List
 contours_of-contour front z contours c =
     contours_of-push front z (contours ++ c ∷ []) ∙ sym (append_assoc (contours_of front) contours (c ∷ [])) ∙ ap (λ (cs : List ContourParts). cs ++ c ∷ []) (sym (contours_of-push front z contours))
 
-contour_more : (front : List SectionParts) (z : ℤ) (contours : List ContourParts) (name : List ℕ) (count : ℤ) (points : List Spot) → AllByRecursion IsContour (contours_of (with_section front z contours)) → is_name name ≡ true → length points ≡ asked count → AllByRecursion IsContour (contours_of (with_section front z (with_contour contours name count points)))
+contour_more : (front : List SectionParts) (z : ℤ) (contours : List ContourParts) (name : List ℕ) (count : ℤ) (points : List Spot) → AllByRecursion IsCountedContour (contours_of (with_section front z contours)) → is_name name ≡ true → length points ≡ asked count → AllByRecursion IsCountedContour (contours_of (with_section front z (with_contour contours name count points)))
 contour_more front z contours name count points h named full =
     let c : ContourParts = record { name = name; count = count; points = points } in
-    subst (AllByRecursion IsContour) (sym (contours_of-contour front z contours c))
-    (all_join IsContour (contours_of (with_section front z contours)) (c ∷ []) h ((named, full), tt))
+    subst (AllByRecursion IsCountedContour) (sym (contours_of-contour front z contours c))
+    (all_join IsCountedContour (contours_of (with_section front z contours)) (c ∷ []) h ((named, full), tt))
 
-sound-opened : (rule : PairRule) (front : List SectionParts) (z : ℤ) (contours : List ContourParts) (name : List ℕ) (count : ℤ) (points : List Spot) (missing : ℕ) → AllByRecursion IsContour (contours_of (with_section front z contours)) → is_name name ≡ true → length points + missing ≡ asked count → IsSoundBody rule (opened front z contours name count points missing)
+sound-opened : (rule : PairRule) (front : List SectionParts) (z : ℤ) (contours : List ContourParts) (name : List ℕ) (count : ℤ) (points : List Spot) (missing : ℕ) → AllByRecursion IsCountedContour (contours_of (with_section front z contours)) → is_name name ≡ true → length points + missing ≡ asked count → IsSoundBody rule (opened front z contours name count points missing)
 sound-opened rule front z contours name count points zero h named full = contour_more front z contours name count points h named (omega (arith, full))
 sound-opened rule front z contours name count points (suc missing) h named full = (h, named, full)
 
@@ -118,7 +118,7 @@ none_linked : (rule : PairRule) → IsLinked rule []
 none_linked Overlap = refl
 none_linked Links = tt
 
-sound-linked : (rule : PairRule) (sections : List SectionParts) (links : List LinkParts) (l : LinkParts) (next : Body) → AllByRecursion IsContour (contours_of sections) → IsLinked rule links → IsLink l → linked rule sections links l ≡ Some next → IsSoundBody rule next
+sound-linked : (rule : PairRule) (sections : List SectionParts) (links : List LinkParts) (l : LinkParts) (next : Body) → AllByRecursion IsCountedContour (contours_of sections) → IsLinked rule links → IsLink l → linked rule sections links l ≡ Some next → IsSoundBody rule next
 sound-linked Overlap sections links l next h k i e = absurd (cc)
 sound-linked Links sections links l next h k i e = subst (IsSoundBody Links) (some_is e) (h, all_join IsLink links (l ∷ []) k (i, tt))
 
@@ -126,7 +126,7 @@ sound-step : (rule : PairRule) (body : Body) (item : Item) (next : Body) → IsS
 sound-step rule bare (section z) next s i e = subst (IsSoundBody rule) (some_is e) tt
 sound-step rule bare (link l) next s i e = sound-linked rule [] [] l next tt (none_linked rule) i e
 sound-step rule (in_section front z contours) (section y) next s i e =
-    subst (IsSoundBody rule) (some_is e) (subst (AllByRecursion IsContour) (sym (contours_of-push (with_section front z contours) y [] ∙ append-nil (contours_of (with_section front z contours)))) s)
+    subst (IsSoundBody rule) (some_is e) (subst (AllByRecursion IsCountedContour) (sym (contours_of-push (with_section front z contours) y [] ∙ append-nil (contours_of (with_section front z contours)))) s)
 sound-step rule (in_section front z contours) (contour name count) next s i e =
     subst (IsSoundBody rule) (some_is e) (sound-opened rule front z contours name count [] (asked count) s i (omega arith))
 sound-step rule (in_section front z contours) (link l) next s i e = sound-linked rule (with_section front z contours) [] l next s (none_linked rule) i e
@@ -137,7 +137,7 @@ sound-step rule body item next s i e = absurd (cc)
 
 -- an object no contour of which is open
 record WholeBody (rule : PairRule) (body : Body) : Type 0 where
-  contours : AllByRecursion IsContour (contours_of (sections_of body))
+  contours : AllByRecursion IsCountedContour (contours_of (sections_of body))
   links : IsLinked rule (links_of body)
 
 sound-whole : (rule : PairRule) (body : Body) → IsSoundBody rule body → is_whole body ≡ true → WholeBody rule body
@@ -158,11 +158,11 @@ objects-are : (v : Version) (front : List ObjectParts) (name : List ℕ) (body :
 objects-are One front name body h = (object_of name body, ap (λ (os : List ObjectParts). os ++ object_of name body ∷ []) h.0, h.1)
 objects-are Two front name body h = all_join (λ (o : ObjectParts). is_name o.name ≡ true) front (object_of name body ∷ []) h.0 (h.1, tt)
 
-all_contours : (front : List ObjectParts) (name : List ℕ) (body : Body) → AllByRecursion IsContour (contours_of (all_sections front)) → AllByRecursion IsContour (contours_of (sections_of body)) → AllByRecursion IsContour (contours_of (all_sections (front ++ object_of name body ∷ [])))
+all_contours : (front : List ObjectParts) (name : List ℕ) (body : Body) → AllByRecursion IsCountedContour (contours_of (all_sections front)) → AllByRecursion IsCountedContour (contours_of (sections_of body)) → AllByRecursion IsCountedContour (contours_of (all_sections (front ++ object_of name body ∷ [])))
 all_contours front name body h k =
     let split = flat_map-append (λ (o : ObjectParts). o.sections) front (object_of name body ∷ []) ∙ ap (λ (ss : List SectionParts). all_sections front ++ ss) (append-nil (sections_of body)) in
     let more = flat_map-append (λ (s : SectionParts). s.contours) (all_sections front) (sections_of body) in
-    subst (AllByRecursion IsContour) (sym (ap contours_of split ∙ more)) (all_join IsContour (contours_of (all_sections front)) (contours_of (sections_of body)) h k)
+    subst (AllByRecursion IsCountedContour) (sym (ap contours_of split ∙ more)) (all_join IsCountedContour (contours_of (all_sections front)) (contours_of (sections_of body)) h k)
 
 -- one more object
 whole-file : (w v : Version) (cost : CostParts) (rule : PairRule) (front : List ObjectParts) (name : List ℕ) (body : Body) → IsSound w (in_object v cost rule front name body) → is_whole body ≡ true → IsFile (parts_of (in_object v cost rule front name body))

@@ -11,12 +11,12 @@ use Rattle.fku_types.specs.Points.{IsCoordinate, IsInRange}
 use Rattle.fku_types.specs.declared.points.Point.{Point}
 use Rattle.section_core.specs.declared.parts.Contour.{Contour}
 use Rattle.section_core.specs.declared.parts.Section.{Section}
-use Rattle.section_core.specs.Parts.{Parts, Spot, ContourParts, SectionParts, IsContour, asked, contours_of}
+use Rattle.section_core.specs.Parts.{Parts, Spot, ContourParts, SectionParts, IsCountedContour, asked, contours_of}
 use Rattle.section_core.specs.Laws.{IsSpot, AreDistinct, AreRising, heights, counts, points, section_vertices, IsPointCount}
 use Rattle.section_core.specs.Views.{spot_of, contour_parts, section_parts}
-use Rattle.section_core.specs.Flat.{IsLevel, AreFlat, ContourData, SectionData, contour_data, section_data}
+use Rattle.section_core.specs.Flat.{IsAtHeight, AreFlat, ContourData, SectionData, contour_data, section_data}
 use Rattle.section_core.specs.Accepted.{IsAccepted}
-use Rattle.section_core.specs.ValidSections.{contours_in, vertices, IsValidContour, IsValidSection, AreValidSections, at_height, contour_at, section_of}
+use Rattle.section_core.specs.ValidSections.{contours_in, vertices, IsValidContour, IsValidSection, AreValidSections, at_height, contour_at_height, section_of}
 use Rattle.fku_types.proofs.ListLaws.{all_rest, all_front}
 
 -- contours
@@ -30,7 +30,7 @@ low n h = omega (arith, ints)
 high : (n : ℕ) → pos n ≤ℤ pos MAX_CONTOUR_VERTICES → n ≤ MAX_CONTOUR_VERTICES
 high n h = omega (arith, ints)
 
-contours_kept : (z : ℤ) (cs : List Contour) → IsCoordinate z → AllByRecursion IsContour (map contour_parts cs) → AllByRecursion IsPointCount (map (λ (c : ContourParts). c.count) (map contour_parts cs)) → AllByRecursion IsSpot (flat_map (λ (c : ContourParts). c.points) (map contour_parts cs)) → AllByRecursion (IsLevel z) cs → AllByRecursion (IsValidContour z) cs
+contours_kept : (z : ℤ) (cs : List Contour) → IsCoordinate z → AllByRecursion IsCountedContour (map contour_parts cs) → AllByRecursion IsPointCount (map (λ (c : ContourParts). c.count) (map contour_parts cs)) → AllByRecursion IsSpot (flat_map (λ (c : ContourParts). c.points) (map contour_parts cs)) → AllByRecursion (IsAtHeight z) cs → AllByRecursion (IsValidContour z) cs
 contours_kept z [] h n k s l = tt
 contours_kept z (c ∷ cs) h n k s l =
     let rest = flat_map (λ (d : ContourParts). d.points) (map contour_parts cs) in (
@@ -50,7 +50,7 @@ vertices-same (c ∷ cs) =
     omega (arith, sum_by-append (λ (d : ContourParts). asked d.count) (contour_parts c ∷ []) (map contour_parts cs), sum_by-append vertices (c ∷ []) cs, vertices-same cs)
 
 -- sections
-sections_kept : (ss : List Section) → AllByRecursion IsCoordinate (heights (map section_parts ss)) → AllByRecursion IsContour (contours_of (map section_parts ss)) → AllByRecursion IsPointCount (counts (map section_parts ss)) → AllByRecursion IsSpot (points (map section_parts ss)) → AllByRecursion (λ n. n ≤ MAX_SECTION_VERTICES) (map section_vertices (map section_parts ss)) → AreFlat ss → AllByRecursion IsValidSection ss
+sections_kept : (ss : List Section) → AllByRecursion IsCoordinate (heights (map section_parts ss)) → AllByRecursion IsCountedContour (contours_of (map section_parts ss)) → AllByRecursion IsPointCount (counts (map section_parts ss)) → AllByRecursion IsSpot (points (map section_parts ss)) → AllByRecursion (λ n. n ≤ MAX_SECTION_VERTICES) (map section_vertices (map section_parts ss)) → AreFlat ss → AllByRecursion IsValidSection ss
 sections_kept [] h n k s v l = tt
 sections_kept (s ∷ ss) h n k p v l =
     let here = map contour_parts s.contours.items in
@@ -63,10 +63,10 @@ sections_kept (s ∷ ss) h n k p v l =
       record {
         height = h.0;
         contours = All-from_recursion (IsValidContour s.z) s.contours.items
-            (contours_kept s.z s.contours.items h.0 (all_front IsContour here more n) (all_front Of (map count here) (map count more) ks) (all_front IsSpot (flat_map spots here) (flat_map spots more) qs) l.0);
+            (contours_kept s.z s.contours.items h.0 (all_front IsCountedContour here more n) (all_front Of (map count here) (map count more) ks) (all_front IsSpot (flat_map spots here) (flat_map spots more) qs) l.0);
         few_vertices = subst (λ (n : ℕ). n ≤ MAX_SECTION_VERTICES) (vertices-same s.contours.items) v.0;
       },
-      sections_kept ss h.1 (all_rest IsContour here more n) (all_rest Of (map count here) (map count more) ks) (all_rest IsSpot (flat_map spots here) (flat_map spots more) qs) v.1 l.1,
+      sections_kept ss h.1 (all_rest IsCountedContour here more n) (all_rest Of (map count here) (map count more) ks) (all_rest IsSpot (flat_map spots here) (flat_map spots more) qs) v.1 l.1,
     )
 
 -- what the laws ask of all contours
@@ -97,7 +97,7 @@ are_kept S ss e a flat =
       each = All-from_recursion IsValidSection ss
           (sections_kept ss
           (subst (λ (xs : List SectionParts). AllByRecursion IsCoordinate (heights xs)) (sym e) l.in_range)
-          (subst (λ (xs : List SectionParts). AllByRecursion IsContour (contours_of xs)) (sym e) a.are_parts.contours)
+          (subst (λ (xs : List SectionParts). AllByRecursion IsCountedContour (contours_of xs)) (sym e) a.are_parts.contours)
           (subst (λ (xs : List SectionParts). AllByRecursion IsPointCount (counts xs)) (sym e) l.counted)
           (subst (λ (xs : List SectionParts). AllByRecursion IsSpot (points xs)) (sym e) l.spots)
           (subst (λ (xs : List SectionParts). AllByRecursion (λ (n : ℕ). n ≤ MAX_SECTION_VERTICES) (map section_vertices xs)) (sym e) l.small)
@@ -117,11 +117,11 @@ level-data z (p ∷ ps) h =
     ap (λ (qs : List Point). p ∷ qs) (level-data z ps h.1)
     ∙ ap (λ (v : ℤ). let q : Point = record { x = p.x; y = p.y; z = v } in q ∷ map (at_height z) (map spot_of ps)) h.0
 
-contours-data : (z : ℤ) (cs : List Contour) → AllByRecursion (IsLevel z) cs → map contour_data cs ≡ map (contour_at z) (map contour_parts cs)
+contours-data : (z : ℤ) (cs : List Contour) → AllByRecursion (IsAtHeight z) cs → map contour_data cs ≡ map (contour_at_height z) (map contour_parts cs)
 contours-data z [] h = refl
 contours-data z (c ∷ cs) h =
     ap (λ (ps : List Point). let d : ContourData = (c.name, ps) in d ∷ map contour_data cs) (level-data z c.points.items h.0)
-    ∙ ap (λ (ds : List ContourData). contour_at z (contour_parts c) ∷ ds) (contours-data z cs h.1)
+    ∙ ap (λ (ds : List ContourData). contour_at_height z (contour_parts c) ∷ ds) (contours-data z cs h.1)
 
 pub sections-data : (ss : List Section) → AreFlat ss → map section_data ss ≡ map section_of (map section_parts ss)
 sections-data [] h = refl

@@ -16,7 +16,7 @@ use Rattle.fku_types.specs.declared.rules.PairRule.{PairRule}
 use Rattle.fku_types.specs.declared.rules.PairRule.TheVariants.{Overlap, Links}
 use Rattle.section_core.specs.declared.parts.Version.{Version}
 use Rattle.section_core.specs.declared.parts.Version.TheVariants.{One, Two}
-use Rattle.section_core.specs.Parts.{CostParts, span, area, mix, Spot, ContourParts, SectionParts, LinkParts, ObjectParts, FileParts, IsContour, IsLink, IsLinked, IsFile, AreObjects, all_sections, version_number, version_line, cost_line, rule_line, object_line, name_lines, body_lines, object_lines, asked, point_line, contour_lines, section_lines, link_line, link_lines, head_lines, end_line, rule_word, contours_of}
+use Rattle.section_core.specs.Parts.{CostParts, span, area, mix, Spot, ContourParts, SectionParts, LinkParts, ObjectParts, FileParts, IsCountedContour, IsLink, IsLinked, IsFile, AreObjects, all_sections, version_number, version_line, cost_line, rule_line, object_line, name_lines, body_lines, object_lines, asked, point_line, contour_lines, section_lines, link_line, link_lines, head_lines, end_line, rule_word, contours_of}
 use Rattle.text_io.specs.WordLists.{Word, text, number, line_text}
 use Rattle.section_core.specs.Laws.{IsSpot, IsMix, weights, IsLawfulFile, told_names, heights, IsPointCount}
 use Rattle.section_core.specs.Accepted.{IsAcceptedFile}
@@ -146,13 +146,13 @@ head_short v cost rule w =
     )
 
 -- contours of accepted parts
-all_short : (cs : List ContourParts) → AllByRecursion IsContour cs → AllByRecursion IsPointCount (map (λ (c : ContourParts). c.count) cs) → AllByRecursion IsSpot (flat_map (λ (c : ContourParts). c.points) cs) → AllByRecursion IsShort cs
+all_short : (cs : List ContourParts) → AllByRecursion IsCountedContour cs → AllByRecursion IsPointCount (map (λ (c : ContourParts). c.count) cs) → AllByRecursion IsSpot (flat_map (λ (c : ContourParts). c.points) cs) → AllByRecursion IsShort cs
 all_short [] h k s = tt
 all_short (c ∷ cs) h k s =
     let rest = flat_map (λ (d : ContourParts). d.points) cs in
     ((name_short c.name h.0.0, count_short c.count k.0, all_front IsSpot c.points rest s), all_short cs h.1 k.1 (all_rest IsSpot c.points rest s))
 
-all_asked : (cs : List ContourParts) → AllByRecursion IsContour cs → sum_by Vertices cs ≡ sum_by asked (map (λ (c : ContourParts). c.count) cs)
+all_asked : (cs : List ContourParts) → AllByRecursion IsCountedContour cs → sum_by Vertices cs ≡ sum_by asked (map (λ (c : ContourParts). c.count) cs)
 all_asked [] h = refl
 all_asked (c ∷ cs) h = omega (arith, sum_by-cons Vertices c cs, sum_by-cons asked c.count (map (λ (d : ContourParts). d.count) cs), h.0.1, all_asked cs h.1)
 

@@ -13,7 +13,7 @@ use Rattle.section_core.specs.declared.parts.Version.{Version}
 use Rattle.section_core.specs.declared.parts.Version.TheVariants.{One, Two}
 use Rattle.section_core.specs.Parts.{span, area, mix, ContourParts, SectionParts, LinkParts, ObjectParts, FileParts, file_lines, head_lines, object_line, object_lines, body_lines, link_lines, section_lines, contour_lines, point_line, link_line, end_line}
 use Rattle.text_io.specs.WordLists.{Word, Matches}
-use Rattle.section_core.specs.Machine.{Item, version, cost_is, rule_is, object, section, contour, point, link, finish, item_line, IsItem, same, version_of, cost_of, mix_of, quad_of, rule_of, object_said, pair_of, item_of, section_items, contour_items, link_items, body_items, object_items, file_items}
+use Rattle.section_core.specs.Machine.{Item, version, cost_is, rule_is, object, section, contour, point, link, finish, item_line, IsItem, same, version_of, as_cost, mix_of, quad_of, as_rule, object_said, as_pair, item_of, section_items, contour_items, link_items, body_items, object_items, file_items}
 use Rattle.fku_types.specs.declared.rules.PairRule.{PairRule}
 use Rattle.fku_types.specs.declared.rules.PairRule.TheVariants.{Overlap, Links}
 use Rattle.section_core.proofs.SoFar.{map_some, some_is}
@@ -81,16 +81,16 @@ item_of-matches (a ∷ b ∷ []) (version Two) h i = subst (λ (a : List ℕ). i
 item_of-matches (a ∷ b ∷ []) (object name) h i =
     subst (λ (a : List ℕ). item_of (a ∷ b ∷ []) ≡ Some (object name)) (sym h.0)
     (subst (λ (b : List ℕ). item_of (codes "OBJECT" ∷ b ∷ []) ≡ Some (object name)) (sym h.1.0) (cond-true (is_name name) _ _ i))
-item_of-matches (a ∷ b ∷ []) (cost_is span) h i = subst (λ (a : List ℕ). item_of (a ∷ b ∷ []) ≡ Some (cost_is span)) (sym h.0) (ap cost_of h.1.0)
-item_of-matches (a ∷ b ∷ []) (cost_is area) h i = subst (λ (a : List ℕ). item_of (a ∷ b ∷ []) ≡ Some (cost_is area)) (sym h.0) (ap cost_of h.1.0)
+item_of-matches (a ∷ b ∷ []) (cost_is span) h i = subst (λ (a : List ℕ). item_of (a ∷ b ∷ []) ≡ Some (cost_is span)) (sym h.0) (ap as_cost h.1.0)
+item_of-matches (a ∷ b ∷ []) (cost_is area) h i = subst (λ (a : List ℕ). item_of (a ∷ b ∷ []) ≡ Some (cost_is area)) (sym h.0) (ap as_cost h.1.0)
 item_of-matches (a ∷ b ∷ c ∷ d ∷ []) (cost_is (mix x y)) h i =
     subst (λ (a : List ℕ). item_of (a ∷ b ∷ c ∷ d ∷ []) ≡ Some (cost_is (mix x y))) (sym h.0)
     (subst (λ (b : List ℕ). item_of (codes "COST" ∷ b ∷ c ∷ d ∷ []) ≡ Some (cost_is (mix x y))) (sym h.1.0)
     (ap (λ (n : Option ℤ). mix_of n (number_of d)) h.1.1.0 ∙ ap (mix_of (Some x)) h.1.1.1.0))
-item_of-matches (a ∷ b ∷ []) (rule_is Overlap) h i = subst (λ (a : List ℕ). item_of (a ∷ b ∷ []) ≡ Some (rule_is Overlap)) (sym h.0) (ap rule_of h.1.0)
-item_of-matches (a ∷ b ∷ []) (rule_is Links) h i = subst (λ (a : List ℕ). item_of (a ∷ b ∷ []) ≡ Some (rule_is Links)) (sym h.0) (ap rule_of h.1.0)
+item_of-matches (a ∷ b ∷ []) (rule_is Overlap) h i = subst (λ (a : List ℕ). item_of (a ∷ b ∷ []) ≡ Some (rule_is Overlap)) (sym h.0) (ap as_rule h.1.0)
+item_of-matches (a ∷ b ∷ []) (rule_is Links) h i = subst (λ (a : List ℕ). item_of (a ∷ b ∷ []) ≡ Some (rule_is Links)) (sym h.0) (ap as_rule h.1.0)
 item_of-matches (a ∷ b ∷ []) (section z) h i = subst (λ (a : List ℕ). item_of (a ∷ b ∷ []) ≡ Some (section z)) (sym h.0) (ap (option_map section) h.1.0)
-item_of-matches (a ∷ b ∷ []) (point p) h i = ap (λ (n : Option ℤ). pair_of n a b) h.0 ∙ ap (option_map (λ (y : ℤ). point (p.0, y))) h.1.0
+item_of-matches (a ∷ b ∷ []) (point p) h i = ap (λ (n : Option ℤ). as_pair n a b) h.0 ∙ ap (option_map (λ (y : ℤ). point (p.0, y))) h.1.0
 item_of-matches (a ∷ b ∷ c ∷ []) (contour name count) h i =
     subst (λ (a : List ℕ). item_of (a ∷ b ∷ c ∷ []) ≡ Some (contour name count)) (sym h.0)
     (subst (λ (b : List ℕ). item_of (codes "CONTOUR" ∷ b ∷ c ∷ []) ≡ Some (contour name count)) (sym h.1.0)
@@ -134,7 +134,7 @@ object-says b item e =
       | inr h ↦ absurd (cc)
     ]
 
-cost-says : (b : List ℕ) (item : Item) → cost_of b ≡ Some item → Says (codes "COST" ∷ b ∷ []) item
+cost-says : (b : List ℕ) (item : Item) → as_cost b ≡ Some item → Says (codes "COST" ∷ b ∷ []) item
 cost-says b item e =
     elim (pick (same b (codes "span")) (cost_is span) _ item e) [
       | inl h ↦ subst (Says (codes "COST" ∷ b ∷ [])) h.1 ((refl, (same-is b (codes "span") h.0, tt)), tt)
@@ -144,7 +144,7 @@ cost-says b item e =
       ]
     ]
 
-rule-says : (b : List ℕ) (item : Item) → rule_of b ≡ Some item → Says (codes "PAIR" ∷ b ∷ []) item
+rule-says : (b : List ℕ) (item : Item) → as_rule b ≡ Some item → Says (codes "PAIR" ∷ b ∷ []) item
 rule-says b item e =
     elim (pick (same b (codes "overlap")) (rule_is Overlap) _ item e) [
       | inl h ↦ subst (Says (codes "PAIR" ∷ b ∷ [])) h.1 ((refl, (same-is b (codes "overlap") h.0, tt)), tt)
@@ -157,7 +157,7 @@ rule-says b item e =
 section-says : (b : List ℕ) (item : Item) → option_map section (number_of b) ≡ Some item → Says (codes "SECTION" ∷ b ∷ []) item
 section-says b item e = let z = map_some section (number_of b) item e in subst (Says (codes "SECTION" ∷ b ∷ [])) z.2 ((refl, (z.1, tt)), tt)
 
-pair-says : (o : Option ℤ) (a b : List ℕ) (item : Item) → number_of a ≡ o → pair_of o a b ≡ Some item → Says (a ∷ b ∷ []) item
+pair-says : (o : Option ℤ) (a b : List ℕ) (item : Item) → number_of a ≡ o → as_pair o a b ≡ Some item → Says (a ∷ b ∷ []) item
 pair-says (Some x) a b item n e =
     let y = map_some (λ (y : ℤ). point (x, y)) (number_of b) item e in
     subst (Says (a ∷ b ∷ [])) y.2 ((n, (y.1, tt)), tt)

@@ -10,7 +10,7 @@ use Rattle.std.proofs.lemmas.Bool.Decides.{nat_tests}
 use Rattle.fku_types.specs.declared.limits.TheConstants.{MAX_CONTOURS, MAX_LINKS, MAX_SECTIONS, MAX_SECTION_VERTICES, MAX_VERTICES}
 use Rattle.fku_types.specs.Points.{IsCoordinate}
 use Rattle.fku_types.specs.declared.rules.PairRule.{PairRule}
-use Rattle.section_core.specs.Parts.{CostParts, Parts, ContourParts, SectionParts, ObjectParts, FileParts, IsParts, IsFile, IsContour, IsLinked, as_file, all_sections, contours_of, asked}
+use Rattle.section_core.specs.Parts.{CostParts, Parts, ContourParts, SectionParts, ObjectParts, FileParts, IsParts, IsFile, IsCountedContour, IsLinked, as_file, all_sections, contours_of, asked}
 use Rattle.section_core.specs.Laws.{Facts, facts, law_order, KeepsAll, IsLawful, IsLawfulFile, IsSpot, IsMix, IsPointCount, weights, AreDistinct, AreRising, heights, names, counts, points, section_vertices}
 use Rattle.section_core.specs.Reading.{HasContour, has_contour, is_filled}
 use Rattle.section_core.specs.Accepted.{IsAccepted, IsAcceptedFile}
@@ -54,13 +54,13 @@ lawful-from S k = lawful-one S (subst (KeepsAll law_order) (facts-one S) k)
 pub file-to : (S : Parts) → IsParts S → IsFile (as_file S)
 file-to S p = record {
   objects = (_, refl, refl);
-  contours = subst (λ (ss : List SectionParts). AllByRecursion IsContour (contours_of ss)) (sym (append-nil S.sections)) p.contours;
+  contours = subst (λ (ss : List SectionParts). AllByRecursion IsCountedContour (contours_of ss)) (sym (append-nil S.sections)) p.contours;
   links = (p.links, tt);
 }
 
 pub file-from : (S : Parts) → IsFile (as_file S) → IsParts S
 file-from S f = record {
-  contours = subst (λ (ss : List SectionParts). AllByRecursion IsContour (contours_of ss)) (append-nil S.sections) f.contours;
+  contours = subst (λ (ss : List SectionParts). AllByRecursion IsCountedContour (contours_of ss)) (append-nil S.sections) f.contours;
   links = f.links.0;
 }
 
@@ -87,7 +87,7 @@ record AreGood (cost : CostParts) (rule : PairRule) (os : List ObjectParts) : Ty
   few_contours : length (names (all_sections os)) ≤ MAX_CONTOURS
   few_sections : sum_by length (map (λ (o : ObjectParts). heights o.sections) os) ≤ MAX_SECTIONS
   few_links : sum_by (λ (o : ObjectParts). length o.links) os ≤ MAX_LINKS
-  contours : AllByRecursion IsContour (contours_of (all_sections os))
+  contours : AllByRecursion IsCountedContour (contours_of (all_sections os))
   links : AllByRecursion (λ (o : ObjectParts). IsLinked rule o.links) os
 
 distinct-right : (xs ys : List (List ℕ)) → AreDistinct (xs ++ ys) → AreDistinct ys

@@ -10,7 +10,7 @@ use Rattle.text_io.specs.WordLists.{Matches, Line, Kept, lines_of}
 use Rattle.section_core.specs.Laws.{facts, KeepsAll, law_order}
 use Rattle.section_core.specs.Reading.{Breach, Breaks, HasBreach, EndsTooSoon, HasNoEnd, is_filled}
 use Rattle.section_core.specs.Machine.{Item, IsItem, item_line, item_of, file_items, State, at_version, ended, advance, run, parts_of}
-use Rattle.section_core.specs.Reader.{judge, AnswerOf, Answer, front_is, no_contours, at_fault, too_soon, at_end, goes_on, read_file, HoldsFile, one_object, read_from, Holds}
+use Rattle.section_core.specs.Reader.{judge, AnswerOf, Answer, front_is, no_contours, at_fault, too_soon, at_end, goes_on, read_file, HoldsFile, one_object, read_from, HoldsAnswer}
 use Rattle.section_core.proofs.SoFar.{and_then_some}
 use Rattle.section_core.proofs.Whole.{run_whole}
 use Rattle.section_core.proofs.Lines.{items-lines, item_of-matches}
@@ -132,7 +132,7 @@ one_empty : (S : Parts) → contours_of S.sections ≡ [] → is_filled (as_file
 one_empty S e = ap (λ (cs : List ContourParts). nat_lt 0 (length cs) && true) e
 
 -- the same where only version 1 is read
-pub read_only : (kept : List Kept) (a : Answer) → Holds kept a → read_from at_version kept ≡ a
+pub read_only : (kept : List Kept) (a : Answer) → HoldsAnswer kept a → read_from at_version kept ≡ a
 read_only kept (front_is S tail) h = ap one_object (file_only One kept (front_is (as_file S) tail) (h.0, filled-to S h.1))
 read_only kept (no_contours S tail) h = ap one_object (file_only One kept (no_contours (as_file S) tail) (h.0, one_empty S h.1))
 read_only kept (at_fault b n) h = ap one_object (file_only One kept (at_fault b n) h)

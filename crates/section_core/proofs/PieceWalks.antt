@@ -9,7 +9,7 @@ use Rattle.section_core.specs.Laws.{Facts, Law, in_range, law_order, KeepsAll, B
 use Rattle.section_core.specs.Reading.{broken, fault_at}
 use Rattle.section_core.specs.Machine.{Item, contour}
 use Rattle.section_core.specs.Steps.{after, first_broken}
-use Rattle.section_core.specs.Made.{Piece, whole, askew, nothing, facts_after, PieceBreaks, HasPieceFault, ArePiecesLawful, IsPieceFault, IsMakeMemory, walked, walk, kept_by, keeps_name, Answers, Walks}
+use Rattle.section_core.specs.Made.{Piece, whole, askew, nothing, facts_after, PieceBreaks, HasPieceFault, ArePiecesLawful, IsPieceFault, IsMakeMemory, walked, walk, kept_by, keeps_name, AnswersWalk, Walks}
 use Rattle.section_core.proofs.Verdicts.{Verdict, verdict}
 use Rattle.section_core.proofs.Walking.{walked_ok, walks_ok, memory_asked}
 
@@ -70,7 +70,7 @@ piece_fault : (ps : List Piece) (law : Law) (fault : Fault) → HasPieceFault ps
 piece_fault ps law NoMemory h e = tt
 piece_fault ps law fault h e = (law, h, e)
 
-pieces_err_by : (a : Bool) (ps : List Piece) (w : Result Facts Law) (r : Result (Unit {0}) Fault) (t : Tally) → walk nothing ps ≡ w → Answers a w r t → IfErr r (IsPieceFault ps)
+pieces_err_by : (a : Bool) (ps : List Piece) (w : Result Facts Law) (r : Result (Unit {0}) Fault) (t : Tally) → walk nothing ps ≡ w → AnswersWalk a w r t → IfErr r (IsPieceFault ps)
 pieces_err_by a ps w (Ok u) t e h = tt
 pieces_err_by a ps (Ok g) (Err NoMemory) t e h = tt
 pieces_err_by a ps (Err law) (Err NoMemory) t e h = tt

@@ -9,7 +9,7 @@ use Rattle.section_core.specs.declared.parts.Section.{Section}
 use Rattle.section_core.specs.declared.parts.Link.{Link}
 use Rattle.section_core.specs.declared.parts.Version.{Version}
 use Rattle.section_core.specs.declared.parts.Version.TheVariants.{One}
-use Rattle.section_core.specs.Parts.{CostParts, IsParts, as_file, IsContour, IsLink, IsLinked, contours_of}
+use Rattle.section_core.specs.Parts.{CostParts, IsParts, as_file, IsCountedContour, IsLink, IsLinked, contours_of}
 use Rattle.section_core.specs.Laws.{Facts, facts, law_order, KeepsAll, IsLawful}
 use Rattle.section_core.specs.Machine.{Item, cost_is, link, finish, section_items, link_items, body_items, file_items, State, at_version, ended, advance, run, parts_of}
 use Rattle.section_core.specs.Steps.{after}
@@ -35,13 +35,13 @@ after_finish : (f : Facts) (items : List Item) → facts_after f (items ++ finis
 after_finish f [] = refl
 after_finish f (item ∷ items) = after_finish (after f item) items
 
-contours_are : (cs : List Contour) → AllByRecursion IsNamed cs → AllByRecursion IsContour (map contour_parts cs)
+contours_are : (cs : List Contour) → AllByRecursion IsNamed cs → AllByRecursion IsCountedContour (map contour_parts cs)
 contours_are [] h = tt
 contours_are (c ∷ cs) h = ((h.0, length-map c.points.items spot_of), contours_are cs h.1)
 
-sections_are : (ss : List Section) → AllByRecursion AreNamed ss → AllByRecursion IsContour (contours_of (map section_parts ss))
+sections_are : (ss : List Section) → AllByRecursion AreNamed ss → AllByRecursion IsCountedContour (contours_of (map section_parts ss))
 sections_are [] h = tt
-sections_are (s ∷ ss) h = all_join IsContour (map contour_parts s.contours.items) (contours_of (map section_parts ss)) (contours_are s.contours.items h.0) (sections_are ss h.1)
+sections_are (s ∷ ss) h = all_join IsCountedContour (map contour_parts s.contours.items) (contours_of (map section_parts ss)) (contours_are s.contours.items h.0) (sections_are ss h.1)
 
 links_are : (ls : List Link) → AllByRecursion IsLinkNamed ls → AllByRecursion IsLink (map link_parts ls)
 links_are [] h = tt

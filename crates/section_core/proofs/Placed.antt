@@ -9,7 +9,7 @@ use Rattle.fku_types.proofs.ListLaws.{all_weaker}
 use Rattle.section_core.specs.declared.parts.Contour.{Contour}
 use Rattle.section_core.specs.declared.parts.Section.{Section}
 use Rattle.section_core.specs.Parts.{Spot, ContourParts}
-use Rattle.section_core.specs.Flat.{IsLevel, IsFlat, AreFlat, IsLevelSection}
+use Rattle.section_core.specs.Flat.{IsAtHeight, IsFlat, AreFlat, IsLevelSection}
 use Rattle.section_core.specs.Views.{spot_of, contour_parts}
 
 -- a place as a spot of the parts, and as a point of a height
@@ -36,8 +36,8 @@ all_level : (z : ℤ) (ps : List Place) → AllByRecursion (λ (p : Point). p.z 
 all_level z [] = tt
 all_level z (p ∷ ps) = (refl, all_level z ps)
 
-pub placed_level : (c : Contour) (z : ℤ) (ps : List Place) → c.points.items ≡ map (point_at z) ps → IsLevel z c
+pub placed_level : (c : Contour) (z : ℤ) (ps : List Place) → c.points.items ≡ map (point_at z) ps → IsAtHeight z c
 placed_level c z ps e = subst (AllByRecursion (λ (p : Point). p.z ≡ z)) (sym e) (all_level z ps)
 
 pub flat_of : (ss : List Section) → All IsLevelSection ss → AreFlat ss
-flat_of ss h = all_weaker IsLevelSection IsFlat ss (λ s k. recursion_from_All (IsLevel s.z) s.contours.items k) (recursion_from_All IsLevelSection ss h)
+flat_of ss h = all_weaker IsLevelSection IsFlat ss (λ s k. recursion_from_All (IsAtHeight s.z) s.contours.items k) (recursion_from_All IsLevelSection ss h)

@@ -14,7 +14,7 @@ use Rattle.section_core.specs.Reading.{broken, fault_at, Breach, form}
 use Rattle.section_core.specs.Tallies.{Tallies, Admits, Judges}
 use Rattle.section_core.specs.Views.{spot_of}
 use Rattle.section_core.specs.Parts.{CostParts}
-use Rattle.section_core.specs.Made.{Piece, whole, askew, point_piece, walked, walk, kept_by, keeps_name, Answers, Walks, is_good}
+use Rattle.section_core.specs.Made.{Piece, whole, askew, point_piece, walked, walk, kept_by, keeps_name, AnswersWalk, Walks, is_good}
 
 abbrev pub walk_then : Result Facts Law → List Piece → Result Facts Law
 walk_then (Ok g) ys = walk g ys
@@ -45,26 +45,26 @@ keeps-front f [] ys e = absurd (false≢true e)
 keeps-front f (askew ∷ xs) ys e = absurd (false≢true e)
 keeps-front f (whole item ∷ xs) ys e = kept_more (first_broken f item) item (keeps_name (after f item) xs) (keeps_name (after f item) (xs ++ ys)) (keeps-front (after f item) xs ys) e
 
-pub memory_answered : (a : Bool) (r : Result Facts Law) (t : Tally) → a ≡ true → Answers a r (Err NoMemory) t
+pub memory_answered : (a : Bool) (r : Result Facts Law) (t : Tally) → a ≡ true → AnswersWalk a r (Err NoMemory) t
 memory_answered a (Ok f) t e = e
 memory_answered a (Err law) t e = e
 
-pub memory_asked : (a : Bool) (r : Result Facts Law) (t : Tally) → Answers a r (Err NoMemory) t → a ≡ true
+pub memory_asked : (a : Bool) (r : Result Facts Law) (t : Tally) → AnswersWalk a r (Err NoMemory) t → a ≡ true
 memory_asked a (Ok f) t h = h
 memory_asked a (Err law) t h = h
 
-answers_more : (a b : Bool) (r : Result Facts Law) (q : Result (Unit {0}) Fault) (t : Tally) → (a ≡ true → b ≡ true) → Answers a r q t → Answers b r q t
+answers_more : (a b : Bool) (r : Result Facts Law) (q : Result (Unit {0}) Fault) (t : Tally) → (a ≡ true → b ≡ true) → AnswersWalk a r q t → AnswersWalk b r q t
 answers_more a b (Ok f) (Ok u) t w h = h
 answers_more a b (Err law) (Ok u) t w h = h
 answers_more a b r (Err NoMemory) t w h = memory_answered b r t (w (memory_asked a r t h))
 answers_more a b (Ok f) (Err fault) t w h = absurd h
 answers_more a b (Err law) (Err fault) t w h = h
 
-pub walks_ok : (a : Bool) (r : Result Facts Law) (u : Unit {0}) (t : Tally) → Answers a r (Ok u) t → (g : Facts) × (r ≡ Ok g) × Tallies t g
+pub walks_ok : (a : Bool) (r : Result Facts Law) (u : Unit {0}) (t : Tally) → AnswersWalk a r (Ok u) t → (g : Facts) × (r ≡ Ok g) × Tallies t g
 walks_ok a (Ok g) u t h = (g, refl, h)
 walks_ok a (Err law) u t h = absurd h
 
-walks_err : (a b : Bool) (r : Result Facts Law) (fault : Fault) (s t : Tally) (ys : List Piece) → (a ≡ true → b ≡ true) → Answers a r (Err fault) s → Answers b (walk_then r ys) (Err fault) t
+walks_err : (a b : Bool) (r : Result Facts Law) (fault : Fault) (s t : Tally) (ys : List Piece) → (a ≡ true → b ≡ true) → AnswersWalk a r (Err fault) s → AnswersWalk b (walk_then r ys) (Err fault) t
 walks_err a b (Ok f) NoMemory s t ys w h = memory_answered b (walk f ys) t (w h)
 walks_err a b (Ok f) fault s t ys w h = absurd h
 walks_err a b (Err law) NoMemory s t ys w h = w h
@@ -73,7 +73,7 @@ walks_err a b (Err law) fault s t ys w h = h
 -- what is returned on a part of the way is returned on the whole
 pub walks_on : (f : Facts) (xs ys : List Piece) (fault : Fault) (s t : Tally) → Walks f xs (Err fault) s → Walks f (xs ++ ys) (Err fault) t
 walks_on f xs ys fault s t h =
-    subst (λ (r : Result Facts Law). Answers (keeps_name f (xs ++ ys)) r (Err fault) t) (sym (walk-append f xs ys))
+    subst (λ (r : Result Facts Law). AnswersWalk (keeps_name f (xs ++ ys)) r (Err fault) t) (sym (walk-append f xs ys))
     (walks_err (keeps_name f xs) (keeps_name f (xs ++ ys)) (walk f xs) fault s t ys (keeps-front f xs ys) h)
 
 abbrev walked_value : Result Facts Law → Facts → Facts
@@ -94,7 +94,7 @@ keeps-later f g (whole item ∷ xs) ys e k =
 -- what is returned on the rest of the way is returned on the whole
 pub walks_after : (f g : Facts) (xs ys : List Piece) (q : Result (Unit {0}) Fault) (t : Tally) → walk f xs ≡ Ok g → Walks g ys q t → Walks f (xs ++ ys) q t
 walks_after f g xs ys q t e h =
-    subst (λ (r : Result Facts Law). Answers (keeps_name f (xs ++ ys)) r q t) (sym (walk-append f xs ys ∙ ap (λ (r : Result Facts Law). walk_then r ys) e))
+    subst (λ (r : Result Facts Law). AnswersWalk (keeps_name f (xs ++ ys)) r q t) (sym (walk-append f xs ys ∙ ap (λ (r : Result Facts Law). walk_then r ys) e))
     (answers_more (keeps_name g ys) (keeps_name f (xs ++ ys)) (walk g ys) q t (keeps-later f g xs ys e) h)
 
 -- a part of the pieces has been walked along
@@ -119,7 +119,7 @@ goes_more f all now new xs rest u o h =
 
 pub goes_err : (f : Facts) (all : List Piece) (now new t : Tally) (xs rest : List Piece) (fault : Fault) (o : GoesOn f all now (xs ++ rest)) → Walks o.facts xs (Err fault) new → Walks f all (Err fault) t
 goes_err f all now new t xs rest fault o h =
-    subst (λ (r : Result Facts Law). Answers (keeps_name f all) r (Err fault) t) (sym (o.same ∙ walk-append o.facts xs rest))
+    subst (λ (r : Result Facts Law). AnswersWalk (keeps_name f all) r (Err fault) t) (sym (o.same ∙ walk-append o.facts xs rest))
     (walks_err (keeps_name o.facts xs) (keeps_name f all) (walk o.facts xs) fault new t rest (λ e. o.asked (keeps-front o.facts xs rest e)) h)
 
 pub admits_ok : (o : Option Law) (u : Unit {0}) (P : Unit {0} → Type 0) → Admits {T = Unit {0}} 0 (Ok u) o P → (o ≡ None) × P u
@@ -139,20 +139,20 @@ not_memory (broken rising) n e = absurd (cc)
 not_memory (broken (within limit)) n e = absurd (cc)
 
 -- the first piece is a contour; storing its name takes memory
-pub contour_err : (o : Option Law) (name : List ℕ) (count : ℤ) (a : Bool) (r : Result Facts Law) (fault : Fault) (P : Unit {0} → Type 0) (t : Tally) → Admits {T = Unit {0}} 0 (Err fault) o P → Answers (kept_by o (contour name count) a) (walked o r) (Err fault) t
+pub contour_err : (o : Option Law) (name : List ℕ) (count : ℤ) (a : Bool) (r : Result Facts Law) (fault : Fault) (P : Unit {0} → Type 0) (t : Tally) → Admits {T = Unit {0}} 0 (Err fault) o P → AnswersWalk (kept_by o (contour name count) a) (walked o r) (Err fault) t
 contour_err None name count a r NoMemory P t h = memory_answered true r t refl
 contour_err None name count a r fault P t h = absurd h
 contour_err (Some law) name count a r NoMemory P t h = absurd (not_memory (broken law) 0 h)
 contour_err (Some law) name count a r fault P t h = h
 
 -- the first piece takes no memory
-pub head_err : (o : Option Law) (item : Item) (a : Bool) (r : Result Facts Law) (fault : Fault) (P : Unit {0} → Type 0) (t : Tally) → Judges {T = Unit {0}} 0 (Err fault) o P → Answers (kept_by o item a) (walked o r) (Err fault) t
+pub head_err : (o : Option Law) (item : Item) (a : Bool) (r : Result Facts Law) (fault : Fault) (P : Unit {0} → Type 0) (t : Tally) → Judges {T = Unit {0}} 0 (Err fault) o P → AnswersWalk (kept_by o item a) (walked o r) (Err fault) t
 head_err None item a r fault P t h = absurd h
 head_err (Some law) item a r NoMemory P t h = absurd (not_memory (broken law) 0 h)
 head_err (Some law) item a r fault P t h = h
 
-pub head_ok : (o : Option Law) (item : Item) (a : Bool) (r : Result Facts Law) (q : Result (Unit {0}) Fault) (t : Tally) → o ≡ None → Answers a r q t → Answers (kept_by o item a) (walked o r) q t
-head_ok o item a r q t e h = subst (λ (l : Option Law). Answers (kept_by l item a) (walked l r) q t) (sym e) (answers_more a (kept_by None item a) r q t (kept_later None item a refl) h)
+pub head_ok : (o : Option Law) (item : Item) (a : Bool) (r : Result Facts Law) (q : Result (Unit {0}) Fault) (t : Tally) → o ≡ None → AnswersWalk a r q t → AnswersWalk (kept_by o item a) (walked o r) q t
+head_ok o item a r q t e h = subst (λ (l : Option Law). AnswersWalk (kept_by l item a) (walked l r) q t) (sym e) (answers_more a (kept_by None item a) r q t (kept_later None item a refl) h)
 
 point_good : (z : ℤ) (p : Point) (f : Facts) (more : List Piece) → is_good z p ≡ true → walk f (point_piece z p ∷ more) ≡ walk (after f (point (spot_of p))) more
 point_good z p f more e =
@@ -178,28 +178,28 @@ tallies_cost t f cost h = record { names = h.names; objects = h.objects; section
 -- the first piece is a cost rule
 pub cost_err : (cost : CostParts) (f : Facts) (more : List Piece) (t : Tally) → is_weighted cost ≡ false → Walks f (whole (cost_is cost) ∷ more) (Err (Range 0)) t
 cost_err cost f more t e =
-    subst (λ (o : Option Law). Answers (kept_by o (cost_is cost) (keeps_name (after f (cost_is cost)) more)) (walked o (walk (after f (cost_is cost)) more)) (Err (Range 0)) t)
+    subst (λ (o : Option Law). AnswersWalk (kept_by o (cost_is cost) (keeps_name (after f (cost_is cost)) more)) (walked o (walk (after f (cost_is cost)) more)) (Err (Range 0)) t)
     (sym (cond-true _ _ _ (ap not e))) refl
 
 pub cost_ok : (cost : CostParts) (f : Facts) (more : List Piece) (r : Result (Unit {0}) Fault) (t : Tally) → is_weighted cost ≡ true → Walks (after f (cost_is cost)) more r t → Walks f (whole (cost_is cost) ∷ more) r t
 cost_ok cost f more r t e h =
     head_ok (first_broken f (cost_is cost)) (cost_is cost) (keeps_name (after f (cost_is cost)) more) (walk (after f (cost_is cost)) more) r t (cond-false _ _ _ (ap not e)) h
 
-pub points_ok : (a : Bool) (z : ℤ) (ps : List Point) (f : Facts) (t : Tally) → list_all (is_good z) ps ≡ true → Tallies t f → Answers a (walk f (map (point_piece z) ps)) (Ok tt) t
+pub points_ok : (a : Bool) (z : ℤ) (ps : List Point) (f : Facts) (t : Tally) → list_all (is_good z) ps ≡ true → Tallies t f → AnswersWalk a (walk f (map (point_piece z) ps)) (Ok tt) t
 points_ok a z [] f t e h = h
 points_ok a z (p ∷ ps) f t e h =
     let q = and_parts (is_good z p) (list_all (is_good z) ps) e in
-    subst (λ (r : Result Facts Law). Answers a r (Ok tt) t) (sym (point_good z p f (map (point_piece z) ps) q.0))
+    subst (λ (r : Result Facts Law). AnswersWalk a r (Ok tt) t) (sym (point_good z p f (map (point_piece z) ps) q.0))
     (points_ok a z ps (after f (point (spot_of p))) t q.1 (tallies_point t f p h))
 
-pub points_err : (a : Bool) (z : ℤ) (ps : List Point) (f : Facts) (t : Tally) → list_all (is_good z) ps ≡ false → Answers a (walk f (map (point_piece z) ps)) (Err (Range 0)) t
+pub points_err : (a : Bool) (z : ℤ) (ps : List Point) (f : Facts) (t : Tally) → list_all (is_good z) ps ≡ false → AnswersWalk a (walk f (map (point_piece z) ps)) (Err (Range 0)) t
 points_err a z [] f t e = absurd (false≢true (sym e))
 points_err a z (p ∷ ps) f t e =
     elim (cases_Bool (is_good z p)) [
       | inl g ↦ let more : list_all (is_good z) ps ≡ false = sym (ap (λ (b : Bool). b && list_all (is_good z) ps) g) ∙ e in
-          subst (λ (r : Result Facts Law). Answers a r (Err (Range 0)) t) (sym (point_good z p f (map (point_piece z) ps) g))
+          subst (λ (r : Result Facts Law). AnswersWalk a r (Err (Range 0)) t) (sym (point_good z p f (map (point_piece z) ps) g))
           (points_err a z ps (after f (point (spot_of p))) t more)
-      | inr b ↦ subst (λ (r : Result Facts Law). Answers a r (Err (Range 0)) t) (sym (point_bad z p f (map (point_piece z) ps) b)) refl
+      | inr b ↦ subst (λ (r : Result Facts Law). AnswersWalk a r (Err (Range 0)) t) (sym (point_bad z p f (map (point_piece z) ps) b)) refl
     ]
 
 pub all_next : {A : Type 0} (P : A → Type 0) (xs : List A) (i : ℕ) (x : A) (rest : List A) → drop i xs ≡ x ∷ rest → AllByRecursion P (take i xs) → P x → AllByRecursion P (take (i + 1) xs)

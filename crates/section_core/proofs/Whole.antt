@@ -9,7 +9,7 @@ use Rattle.fku_types.specs.declared.rules.PairRule.{PairRule}
 use Rattle.fku_types.specs.declared.rules.PairRule.TheVariants.{Overlap, Links}
 use Rattle.section_core.specs.declared.parts.Version.{Version}
 use Rattle.section_core.specs.declared.parts.Version.TheVariants.{One, Two}
-use Rattle.section_core.specs.Parts.{CostParts, Spot, ContourParts, SectionParts, LinkParts, ObjectParts, FileParts, contours_of, all_sections, IsContour, IsLinked, IsFile, is_read, only_name}
+use Rattle.section_core.specs.Parts.{CostParts, Spot, ContourParts, SectionParts, LinkParts, ObjectParts, FileParts, contours_of, all_sections, IsCountedContour, IsLinked, IsFile, is_read, only_name}
 use Rattle.section_core.specs.Machine.{Item, version, cost_is, rule_is, object, section, contour, point, link, finish, Body, bare, in_section, in_contour, in_links, step, sections_of, links_of, object_of, is_whole, State, at_version, no_object, in_object, ended, inside, begun, advance, run, opened, with_section, with_contour, section_items, contour_items, link_items, body_items, object_items, file_items}
 use Rattle.section_core.proofs.SoFar.{and_then_some}
 use Rattle.fku_types.proofs.ListLaws.{all_front, all_rest}
@@ -39,12 +39,12 @@ steps_points rule front z contours name count points (p ∷ rest) =
     steps_points rule front z contours name count (points ++ p ∷ []) rest
     ∙ ap (λ (ps : List Spot). Some (in_section front z (with_contour contours name count ps))) (append_assoc points (p ∷ []) rest)
 
-steps_contour : (rule : PairRule) (front : List SectionParts) (z : ℤ) (contours : List ContourParts) (c : ContourParts) → IsContour c → steps rule (in_section front z contours) (contour_items c) ≡ Some (in_section front z (contours ++ c ∷ []))
+steps_contour : (rule : PairRule) (front : List SectionParts) (z : ℤ) (contours : List ContourParts) (c : ContourParts) → IsCountedContour c → steps rule (in_section front z contours) (contour_items c) ≡ Some (in_section front z (contours ++ c ∷ []))
 steps_contour rule front z contours c h =
     ap (λ (n : ℕ). steps rule (opened front z contours c.name c.count [] n) (map point c.points)) (sym h.1)
     ∙ steps_points rule front z contours c.name c.count [] c.points
 
-steps_contours : (rule : PairRule) (front : List SectionParts) (z : ℤ) (contours more : List ContourParts) → AllByRecursion IsContour more → steps rule (in_section front z contours) (flat_map contour_items more) ≡ Some (in_section front z (contours ++ more))
+steps_contours : (rule : PairRule) (front : List SectionParts) (z : ℤ) (contours more : List ContourParts) → AllByRecursion IsCountedContour more → steps rule (in_section front z contours) (flat_map contour_items more) ≡ Some (in_section front z (contours ++ more))
 steps_contours rule front z contours [] h = ap (λ (cs : List ContourParts). Some (in_section front z cs)) (sym (append-nil contours))
 steps_contours rule front z contours (c ∷ more) h =
     steps-append rule (in_section front z contours) (contour_items c) (flat_map contour_items more) _ (steps_contour rule front z contours c h.0)
@@ -65,11 +65,11 @@ record Sectioned (rule : PairRule) (body : Body) (items : List Item) (sections :
   plain : IsPlain end
 
 -- the sections after the first
-steps_sections : (rule : PairRule) (front : List SectionParts) (z : ℤ) (contours : List ContourParts) (more : List SectionParts) → AllByRecursion IsContour (contours_of more) → Sectioned rule (in_section front z contours) (flat_map section_items more) (with_section front z contours ++ more)
+steps_sections : (rule : PairRule) (front : List SectionParts) (z : ℤ) (contours : List ContourParts) (more : List SectionParts) → AllByRecursion IsCountedContour (contours_of more) → Sectioned rule (in_section front z contours) (flat_map section_items more) (with_section front z contours ++ more)
 steps_sections rule front z contours [] h = record { end = in_section front z contours; leads = refl; sections-are = sym (append-nil (with_section front z contours)); plain = tt }
 steps_sections rule front z contours (s ∷ more) h =
-    let here = all_front IsContour s.contours (contours_of more) h in
-    let there = all_rest IsContour s.contours (contours_of more) h in
+    let here = all_front IsCountedContour s.contours (contours_of more) h in
+    let there = all_rest IsCountedContour s.contours (contours_of more) h in
     let next = in_section (with_section front z contours) s.z [] in
     let rest = steps_sections rule (with_section front z contours) s.z s.contours more there in
     record {
@@ -79,11 +79,11 @@ steps_sections rule front z contours (s ∷ more) h =
       plain = rest.plain;
     }
 
-all_steps : (rule : PairRule) (sections : List SectionParts) → AllByRecursion IsContour (contours_of sections) → Sectioned rule bare (flat_map section_items sections) sections
+all_steps : (rule : PairRule) (sections : List SectionParts) → AllByRecursion IsCountedContour (contours_of sections) → Sectioned rule bare (flat_map section_items sections) sections
 all_steps rule [] h = record { end = bare; leads = refl; sections-are = refl; plain = tt }
 all_steps rule (s ∷ more) h =
-    let here = all_front IsContour s.contours (contours_of more) h in
-    let there = all_rest IsContour s.contours (contours_of more) h in
+    let here = all_front IsCountedContour s.contours (contours_of more) h in
+    let there = all_rest IsCountedContour s.contours (contours_of more) h in
     let next = in_section [] s.z [] in
     let rest = steps_sections rule [] s.z s.contours more there in
     record {
@@ -124,7 +124,7 @@ steps_tail Links body [] p h = stays Links body p
 steps_tail Links body (l ∷ links) p h = links_after body l links p
 
 -- the items of an object lead to the object
-pub steps_body : (rule : PairRule) (sections : List SectionParts) (links : List LinkParts) → AllByRecursion IsContour (contours_of sections) → IsLinked rule links → Reached rule bare (body_items rule sections links) sections links
+pub steps_body : (rule : PairRule) (sections : List SectionParts) (links : List LinkParts) → AllByRecursion IsCountedContour (contours_of sections) → IsLinked rule links → Reached rule bare (body_items rule sections links) sections links
 steps_body rule sections links h k =
     let a = all_steps rule sections h in
     let b = steps_tail rule a.end links a.plain k in
@@ -177,13 +177,13 @@ pub end_run : (w v : Version) (cost : CostParts) (rule : PairRule) (front : List
 end_run w v cost rule front name body e = ap (option_and_then (λ next. run w next [])) (cond-true (is_whole body) _ _ e)
 
 -- the contours of an object, and those of the others
-pub contours-split : (ss ts : List SectionParts) → AllByRecursion IsContour (contours_of (ss ++ ts)) → AllByRecursion IsContour (contours_of ss) × AllByRecursion IsContour (contours_of ts)
+pub contours-split : (ss ts : List SectionParts) → AllByRecursion IsCountedContour (contours_of (ss ++ ts)) → AllByRecursion IsCountedContour (contours_of ss) × AllByRecursion IsCountedContour (contours_of ts)
 contours-split ss ts h =
-    let g = subst (AllByRecursion IsContour) (flat_map-append (λ (s : SectionParts). s.contours) ss ts) h in
-    (all_front IsContour (contours_of ss) (contours_of ts) g, all_rest IsContour (contours_of ss) (contours_of ts) g)
+    let g = subst (AllByRecursion IsCountedContour) (flat_map-append (λ (s : SectionParts). s.contours) ss ts) h in
+    (all_front IsCountedContour (contours_of ss) (contours_of ts) g, all_rest IsCountedContour (contours_of ss) (contours_of ts) g)
 
 -- the objects after one, and END
-run_objects : (w : Version) (cost : CostParts) (rule : PairRule) (front : List ObjectParts) (name : List ℕ) (body : Body) (more : List ObjectParts) → is_whole body ≡ true → AllByRecursion IsContour (contours_of (all_sections more)) → AllByRecursion (λ (o : ObjectParts). IsLinked rule o.links) more → run w (in_object Two cost rule front name body) (flat_map (object_items Two rule) more ++ finish ∷ []) ≡ Some (ended (file Two cost rule (front ++ object_of name body ∷ more)))
+run_objects : (w : Version) (cost : CostParts) (rule : PairRule) (front : List ObjectParts) (name : List ℕ) (body : Body) (more : List ObjectParts) → is_whole body ≡ true → AllByRecursion IsCountedContour (contours_of (all_sections more)) → AllByRecursion (λ (o : ObjectParts). IsLinked rule o.links) more → run w (in_object Two cost rule front name body) (flat_map (object_items Two rule) more ++ finish ∷ []) ≡ Some (ended (file Two cost rule (front ++ object_of name body ∷ more)))
 run_objects w cost rule front name body [] e h k = end_run w Two cost rule front name body e
 run_objects w cost rule front name body (o ∷ more) e h k =
     let split = contours-split o.sections (all_sections more) h in
@@ -198,7 +198,7 @@ run_objects w cost rule front name body (o ∷ more) e h k =
     ∙ ap (λ (os : List ObjectParts). Some (ended (file Two cost rule os))) (append_assoc front (object_of name body ∷ []) (o ∷ more))
 
 -- after the head, in version 2
-run_two : (w : Version) (cost : CostParts) (rule : PairRule) (objects : List ObjectParts) → AllByRecursion IsContour (contours_of (all_sections objects)) → AllByRecursion (λ (o : ObjectParts). IsLinked rule o.links) objects → run w (no_object cost rule) (flat_map (object_items Two rule) objects ++ finish ∷ []) ≡ Some (ended (file Two cost rule objects))
+run_two : (w : Version) (cost : CostParts) (rule : PairRule) (objects : List ObjectParts) → AllByRecursion IsCountedContour (contours_of (all_sections objects)) → AllByRecursion (λ (o : ObjectParts). IsLinked rule o.links) objects → run w (no_object cost rule) (flat_map (object_items Two rule) objects ++ finish ∷ []) ≡ Some (ended (file Two cost rule objects))
 run_two w cost rule [] h k = refl
 run_two w cost rule (o ∷ more) h k =
     let split = contours-split o.sections (all_sections more) h in
@@ -211,7 +211,7 @@ run_two w cost rule (o ∷ more) h k =
     ∙ ap (λ (p : ObjectParts). Some (ended (file Two cost rule (p ∷ more)))) (same_object o.name r.end o refl r.sections-are r.links-are)
 
 -- in version 1
-run_one : (w : Version) (cost : CostParts) (rule : PairRule) (o : ObjectParts) → o.name ≡ only_name → AllByRecursion IsContour (contours_of o.sections) → IsLinked rule o.links → run w (in_object One cost rule [] only_name bare) (flat_map (object_items One rule) (o ∷ []) ++ finish ∷ []) ≡ Some (ended (file One cost rule (o ∷ [])))
+run_one : (w : Version) (cost : CostParts) (rule : PairRule) (o : ObjectParts) → o.name ≡ only_name → AllByRecursion IsCountedContour (contours_of o.sections) → IsLinked rule o.links → run w (in_object One cost rule [] only_name bare) (flat_map (object_items One rule) (o ∷ []) ++ finish ∷ []) ≡ Some (ended (file One cost rule (o ∷ [])))
 run_one w cost rule o n h k =
     let r = steps_body rule o.sections o.links h k in
     let items = body_items rule o.sections o.links in
@@ -225,7 +225,7 @@ run_behind : (w v : Version) (cost : CostParts) (rule : PairRule) (objects : Lis
 run_behind w One cost rule objects h =
     let o : ObjectParts = h.objects.0 in
     let is : objects ≡ o ∷ [] = h.objects.1 in
-    let contours = subst (λ (os : List ObjectParts). AllByRecursion IsContour (contours_of (all_sections os))) is h.contours in
+    let contours = subst (λ (os : List ObjectParts). AllByRecursion IsCountedContour (contours_of (all_sections os))) is h.contours in
     let links = subst (AllByRecursion (λ (p : ObjectParts). IsLinked rule p.links)) is h.links in
     let named : o.name ≡ only_name = h.objects.2 in
     subst (λ (os : List ObjectParts). run w (in_object One cost rule [] only_name bare) (flat_map (object_items One rule) os ++ finish ∷ []) ≡ Some (ended (file One cost rule os))) (sym is)

@@ -13,7 +13,7 @@ use Rattle.section_core.specs.declared.parts.Link.{Link}
 use Rattle.section_core.specs.Parts.{CostParts}
 use Rattle.section_core.specs.Machine.{Item, cost_is, section, contour, point, link, contour_items, section_items}
 use Rattle.section_core.specs.Views.{spot_of, contour_parts, section_parts, link_parts}
-use Rattle.section_core.specs.Flat.{IsLevel, AreFlat}
+use Rattle.section_core.specs.Flat.{IsAtHeight, AreFlat}
 use Rattle.section_core.specs.Made.{Piece, whole, askew, point_piece, contour_pieces, section_pieces, link_piece, pieces_of, ArePiecesLawful}
 use Rattle.fku_types.proofs.ListLaws.{all_rest, all_front}
 
@@ -58,7 +58,7 @@ points_whole z (p ∷ ps) h =
 
 record ContoursWhole (z : ℤ) (cs : List Contour) : Type 0 where
   items : unwhole (flat_map (contour_pieces z) cs) ≡ flat_map contour_items (map contour_parts cs)
-  level : AllByRecursion (IsLevel z) cs
+  level : AllByRecursion (IsAtHeight z) cs
 
 contours_whole : (z : ℤ) (cs : List Contour) → AllByRecursion IsWhole (flat_map (contour_pieces z) cs) → ContoursWhole z cs
 contours_whole z [] h = record { items = refl; level = tt }
@@ -113,7 +113,7 @@ level_pieces z (p ∷ ps) h =
     ap (λ (q : Piece). q ∷ map (point_piece z) ps) (cond-true _ _ _ ((Decides-int_eq p.z z).1 h.0))
     ∙ ap (λ (qs : List Piece). whole (point (spot_of p)) ∷ qs) (level_pieces z ps h.1)
 
-contour_level : (z : ℤ) (cs : List Contour) → AllByRecursion (IsLevel z) cs → flat_map (contour_pieces z) cs ≡ map whole (flat_map contour_items (map contour_parts cs))
+contour_level : (z : ℤ) (cs : List Contour) → AllByRecursion (IsAtHeight z) cs → flat_map (contour_pieces z) cs ≡ map whole (flat_map contour_items (map contour_parts cs))
 contour_level z [] h = refl
 contour_level z (c ∷ cs) h =
     ap (λ (qs : List Piece). whole (contour c.name (pos (length c.points.items))) ∷ qs)

@@ -7,16 +7,16 @@ use Rattle.section_core.specs.declared.parts.Section.{Section}
 use Rattle.section_core.specs.declared.parts.Draft.{Draft}
 
 -- each point of the contour is at this height
-abbrev pub IsLevel : ℤ → Contour → Type 0
-IsLevel z c = AllByRecursion (λ (p : Point). p.z ≡ z) c.points.items
+abbrev pub IsAtHeight : ℤ → Contour → Type 0
+IsAtHeight z c = AllByRecursion (λ (p : Point). p.z ≡ z) c.points.items
 
 -- each point of the section is at its height
 abbrev pub IsFlat : Section → Type 0
-IsFlat s = AllByRecursion (IsLevel s.z) s.contours.items
+IsFlat s = AllByRecursion (IsAtHeight s.z) s.contours.items
 
 -- the same, stated for the contour at each place
 abbrev pub IsLevelSection : Section → Type 0
-IsLevelSection s = All (IsLevel s.z) s.contours.items
+IsLevelSection s = All (IsAtHeight s.z) s.contours.items
 
 abbrev pub AreFlat : List Section → Type 0
 AreFlat sections = AllByRecursion IsFlat sections

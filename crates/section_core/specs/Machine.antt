@@ -196,26 +196,26 @@ version_of None = None
 version_of (Some (pos n)) = if nat_eq n 1 then Some (version One) else (if nat_eq n 2 then Some (version Two) else None)
 version_of (Some (negsuc n)) = None
 
-abbrev pub cost_of : List ℕ → Option Item
-cost_of word = if same word (codes "span") then Some (cost_is span)
+abbrev pub as_cost : List ℕ → Option Item
+as_cost word = if same word (codes "span") then Some (cost_is span)
     else (if same word (codes "area") then Some (cost_is area) else None)
 
-abbrev pub rule_of : List ℕ → Option Item
-rule_of word = if same word (codes "overlap") then Some (rule_is Overlap)
+abbrev pub as_rule : List ℕ → Option Item
+as_rule word = if same word (codes "overlap") then Some (rule_is Overlap)
     else (if same word (codes "links") then Some (rule_is Links) else None)
 
 abbrev pub object_said : List ℕ → Option Item
 object_said word = if is_name word then Some (object word) else None
 
 -- two words: a point, or a keyword and a word
-abbrev pub pair_of : Option ℤ → List ℕ → List ℕ → Option Item
-pair_of (Some x) first second = option_map (λ y. point (x, y)) (number_of second)
-pair_of None first second =
+abbrev pub as_pair : Option ℤ → List ℕ → List ℕ → Option Item
+as_pair (Some x) first second = option_map (λ y. point (x, y)) (number_of second)
+as_pair None first second =
     if same first (codes "SECTION") then option_map section (number_of second)
     else (if same first (codes "OBJECT") then object_said second
     else (if same first (codes "SECTIONS") then version_of (number_of second)
-    else (if same first (codes "COST") then cost_of second
-    else (if same first (codes "PAIR") then rule_of second else None))))
+    else (if same first (codes "COST") then as_cost second
+    else (if same first (codes "PAIR") then as_rule second else None))))
 
 -- three words: a contour or a link
 abbrev pub triple_of : List ℕ → List ℕ → List ℕ → Option Item
@@ -238,7 +238,7 @@ quad_of first second third fourth =
 abbrev pub item_of : List (List ℕ) → Option Item
 item_of [] = None
 item_of (a ∷ []) = if same a (codes "END") then Some finish else None
-item_of (a ∷ b ∷ []) = pair_of (number_of a) a b
+item_of (a ∷ b ∷ []) = as_pair (number_of a) a b
 item_of (a ∷ b ∷ c ∷ []) = triple_of a b c
 item_of (a ∷ b ∷ c ∷ d ∷ []) = quad_of a b c d
 item_of (a ∷ b ∷ c ∷ d ∷ e ∷ more) = None

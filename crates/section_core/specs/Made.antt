@@ -140,15 +140,15 @@ keeps_name f (askew ∷ more) = false
 keeps_name f (whole item ∷ more) = kept_by (first_broken f item) item (keeps_name (after f item) more)
 
 -- the code returns this, with the tally of the facts; memory may run out where it is taken
-abbrev pub Answers : Bool → Result Facts Law → Result (Unit {0}) Fault → Tally → Type 0
-Answers asks (Ok f) (Ok u) t = Tallies t f
-Answers asks w (Err NoMemory) t = asks ≡ true
-Answers asks (Err law) (Err fault) t = fault ≡ fault_at (broken law) 0
-Answers asks (Ok f) (Err fault) t = ⊥
-Answers asks (Err law) (Ok u) t = ⊥
+abbrev pub AnswersWalk : Bool → Result Facts Law → Result (Unit {0}) Fault → Tally → Type 0
+AnswersWalk asks (Ok f) (Ok u) t = Tallies t f
+AnswersWalk asks w (Err NoMemory) t = asks ≡ true
+AnswersWalk asks (Err law) (Err fault) t = fault ≡ fault_at (broken law) 0
+AnswersWalk asks (Ok f) (Err fault) t = ⊥
+AnswersWalk asks (Err law) (Ok u) t = ⊥
 
 abbrev pub Walks : Facts → List Piece → Result (Unit {0}) Fault → Tally → Type 0
-Walks f pieces r t = Answers (keeps_name f pieces) (walk f pieces) r t
+Walks f pieces r t = AnswersWalk (keeps_name f pieces) (walk f pieces) r t
 
 -- the point is at this height, and in its range
 abbrev pub is_good : ℤ → Point → Bool

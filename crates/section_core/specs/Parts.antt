@@ -92,8 +92,8 @@ abbrev pub all_sections : List ObjectParts → List SectionParts
 all_sections objects = flat_map (λ o. o.sections) objects
 
 -- a contour has a name, and as many points as its count asks for
-abbrev pub IsContour : ContourParts → Type 0
-IsContour c = (is_name c.name ≡ true) × (length c.points ≡ asked c.count)
+abbrev pub IsCountedContour : ContourParts → Type 0
+IsCountedContour c = (is_name c.name ≡ true) × (length c.points ≡ asked c.count)
 
 abbrev pub IsLink : LinkParts → Type 0
 IsLink l = (is_name l.below ≡ true) × (is_name l.above ≡ true)
@@ -105,7 +105,7 @@ IsLinked Links links = AllByRecursion IsLink links
 
 -- parts that can be written as lines, whatever their numbers are
 pub record IsParts (S : Parts) : Type 0 where
-  pub contours : AllByRecursion IsContour (contours_of S.sections)
+  pub contours : AllByRecursion IsCountedContour (contours_of S.sections)
   pub links : IsLinked S.rule S.links
 
 -- version 1 has one object, of one name; in version 2 objects have any names
@@ -116,7 +116,7 @@ AreObjects Two objects = AllByRecursion (λ o. is_name o.name ≡ true) objects
 -- a text's parts that can be written as lines, whatever their numbers are
 pub record IsFile (F : FileParts) : Type 0 where
   pub objects : AreObjects F.version F.objects
-  pub contours : AllByRecursion IsContour (contours_of (all_sections F.objects))
+  pub contours : AllByRecursion IsCountedContour (contours_of (all_sections F.objects))
   pub links : AllByRecursion (λ o. IsLinked F.rule o.links) F.objects
 
 abbrev pub rule_word : PairRule → List ℕ

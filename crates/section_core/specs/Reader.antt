@@ -71,11 +71,11 @@ one_object too_soon = too_soon
 abbrev pub read_from : State → List Kept → Answer
 read_from state kept = one_object (read_file One state kept)
 
-abbrev pub Holds : List Kept → Answer → Type 0
-Holds kept (front_is S tail) = HasFront kept S tail × HasContour S
-Holds kept (no_contours S tail) = HasFront kept S tail × (contours_of S.sections ≡ [])
-Holds kept (at_fault breach n) = HasBreach One kept n breach
-Holds kept too_soon = EndsTooSoon One kept
+abbrev pub HoldsAnswer : List Kept → Answer → Type 0
+HoldsAnswer kept (front_is S tail) = HasFront kept S tail × HasContour S
+HoldsAnswer kept (no_contours S tail) = HasFront kept S tail × (contours_of S.sections ≡ [])
+HoldsAnswer kept (at_fault breach n) = HasBreach One kept n breach
+HoldsAnswer kept too_soon = EndsTooSoon One kept
 
 -- for every list of kept lines, what the reader returns holds
 abbrev pub ReaderIsRight : Type 0

@@ -46,8 +46,8 @@ pub record AreValidSections (sections : List Section) : Type 0 where
 abbrev pub at_height : ℤ → Spot → Point
 at_height z p = record { x = p.0; y = p.1; z = z }
 
-abbrev pub contour_at : ℤ → ContourParts → ContourData
-contour_at z c = (c.name, map (at_height z) c.points)
+abbrev pub contour_at_height : ℤ → ContourParts → ContourData
+contour_at_height z c = (c.name, map (at_height z) c.points)
 
 abbrev pub section_of : SectionParts → SectionData
-section_of s = (s.z, map (contour_at s.z) s.contours)
+section_of s = (s.z, map (contour_at_height s.z) s.contours)

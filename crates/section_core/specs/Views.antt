@@ -1,6 +1,7 @@
 -- What the code holds, as parts.
-use Rattle.std.specs.Prelude.{List, map, length, pos}
+use Rattle.std.specs.Prelude.{ℤ, List, map, length, pos}
 use Rattle.fku_types.specs.declared.points.Point.{Point}
+use Rattle.fku_types.specs.declared.points.Spot.{Spot as Place}
 use Rattle.section_core.specs.declared.parts.Contour.{Contour}
 use Rattle.section_core.specs.declared.parts.Section.{Section}
 use Rattle.section_core.specs.declared.parts.Link.{Link}
@@ -12,6 +13,13 @@ use Rattle.section_core.specs.Costs.{cost_parts}
 
 abbrev pub spot_of : Point → Spot
 spot_of p = (p.x, p.y)
+
+abbrev pub spot_at : Place → Spot
+spot_at p = (p.x, p.y)
+
+-- the point at a place of a height
+abbrev pub placed : ℤ → Place → Point
+placed z p = record { x = p.x; y = p.y; z = z }
 
 abbrev pub contour_parts : Contour → ContourParts
 contour_parts c = record { name = c.name; count = pos (length c.points.items); points = map spot_of c.points.items }

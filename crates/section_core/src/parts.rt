@@ -1,7 +1,7 @@
 //! The parts of a section text.
 ghost use Rattle.std.specs.Prelude.{◌≡◌, ℤ, map, IfOk};
 ghost use Rattle.section_core.specs.Views.{contour_parts, section_parts, link_parts};
-ghost use Rattle.section_core.specs.Flat.{IsLevel, IsLevelSection, contour_data, section_data};
+ghost use Rattle.section_core.specs.Flat.{IsAtHeight, IsLevelSection, contour_data, section_data};
 
 use fku_types::{CostRule, Name, NoMemory, PairRule, Point};
 use std::alloc::Global;
@@ -19,7 +19,7 @@ impl Contour {
         ensures data { IfOk result (λ c. contour_data c ≡ contour_data self.now) }
         ensures parts { IfOk result (λ c. contour_parts c ≡ contour_parts self.now) }
         // The copy is at a height if all points of this contour are.
-        ensures level { (z : ℤ) → IsLevel z self.now → IfOk result (IsLevel z) }
+        ensures level { (z : ℤ) → IsAtHeight z self.now → IfOk result (IsAtHeight z) }
     {
         let points = self.points.to_vec(alloc)?;
         let name = self.name.copy();

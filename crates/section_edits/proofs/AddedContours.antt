@@ -13,8 +13,8 @@ use Rattle.section_core.specs.Parts.{Spot, ContourParts, SectionParts, Parts, co
 use Rattle.section_core.specs.Laws.{IsSpot, AreRising, heights, names}
 use Rattle.section_core.proofs.Rising.{above_first, rest_rises}
 use Rattle.section_edits.specs.Contours.{has_name}
-use Rattle.section_edits.specs.Changes.{contour_with, added_in, with_contour}
-use Rattle.section_edits.specs.Ready.{IsWhole, IsReady}
+use Rattle.section_edits.specs.Changes.{contour_with, added_in, with_new_contour}
+use Rattle.section_edits.specs.Ready.{IsWholeContour, IsReadyParts}
 use Rattle.section_edits.proofs.Lawful.{name_of, whole_with}
 use Rattle.section_edits.proofs.DistinctNames.{AddsName, adds_front, distinct_added, not_found}
 
@@ -27,13 +27,13 @@ added_heights z c [] = refl
 added_heights z c (s ∷ ss) =
     ap₂ (λ (y : ℤ) (zs : List ℤ). y ∷ zs) (cond_both (int_eq z s.z) (with_one s c) s (λ (t : SectionParts). t.z ≡ s.z) (λ is. refl) (λ no. refl)) (added_heights z c ss)
 
-added_whole : (z : ℤ) (c : ContourParts) (ss : List SectionParts) → IsWhole c → AllByRecursion IsWhole (contours_of ss) → AllByRecursion IsWhole (contours_of (map (added_in z c) ss))
+added_whole : (z : ℤ) (c : ContourParts) (ss : List SectionParts) → IsWholeContour c → AllByRecursion IsWholeContour (contours_of ss) → AllByRecursion IsWholeContour (contours_of (map (added_in z c) ss))
 added_whole z c [] k w = tt
 added_whole z c (s ∷ ss) k w =
-    let here = all_front IsWhole s.contours (contours_of ss) w in
-    all_join IsWhole (added_in z c s).contours (contours_of (map (added_in z c) ss))
-    (cond_both (int_eq z s.z) (with_one s c) s (λ (t : SectionParts). AllByRecursion IsWhole t.contours) (λ is. all_push IsWhole s.contours c here k) (λ no. here))
-    (added_whole z c ss k (all_rest IsWhole s.contours (contours_of ss) w))
+    let here = all_front IsWholeContour s.contours (contours_of ss) w in
+    all_join IsWholeContour (added_in z c s).contours (contours_of (map (added_in z c) ss))
+    (cond_both (int_eq z s.z) (with_one s c) s (λ (t : SectionParts). AllByRecursion IsWholeContour t.contours) (λ is. all_push IsWholeContour s.contours c here k) (λ no. here))
+    (added_whole z c ss k (all_rest IsWholeContour s.contours (contours_of ss) w))
 
 -- the sections above one
 above_head : (s : SectionParts) (ss : List SectionParts) → AreRising (heights (s ∷ ss)) → AllByRecursion (λ (t : SectionParts). s.z <ℤ t.z) ss
@@ -70,7 +70,7 @@ added_names : (z : ℤ) (c : ContourParts) (ss : List SectionParts) → AreRisin
 added_names z c [] r = record { before = []; after = []; split = refl; new_names = inr refl }
 added_names z c (s ∷ ss) r = added_head z c s ss (int_eq z s.z) refl r (added_names z c ss (rest_rises s ss r))
 
-pub ready_added : (S : Parts) (z : ℤ) (name : List ℕ) (ps : List Spot) → IsReady S → is_name name ≡ true → find (has_name name) (contours_of S.sections) ≡ None → 3 ≤ length ps → AllByRecursion IsSpot ps → IsReady (with_contour z (contour_with name ps) S)
+pub ready_added : (S : Parts) (z : ℤ) (name : List ℕ) (ps : List Spot) → IsReadyParts S → is_name name ≡ true → find (has_name name) (contours_of S.sections) ≡ None → 3 ≤ length ps → AllByRecursion IsSpot ps → IsReadyParts (with_new_contour z (contour_with name ps) S)
 ready_added S z name ps r n free e s =
     let ss = S.sections in
     let c = contour_with name ps in

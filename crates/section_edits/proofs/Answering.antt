@@ -18,11 +18,11 @@ use Rattle.section_edits.specs.declared.edit.Edit.{Edit}
 use Rattle.section_edits.specs.declared.edit.EditFault.{EditFault}
 use Rattle.section_edits.specs.declared.edit.EditFault.TheVariants.{EditForm, NoContour, NoSection, NoVertex, TooFew, NameTwice, Limit, Found, NoMemory}
 use Rattle.section_edits.specs.Changes.{changed}
-use Rattle.section_edits.specs.Refusals.{first_of, own_tests, IsLateRefusal, IsOwnOr, IsRefusal, Answers, IsEditMemory}
+use Rattle.section_edits.specs.Refusals.{first_of, own_tests, IsLateRefusal, IsOwnOr, IsRefusal, AnswersOrRefuses, IsEditMemory}
 use Rattle.section_edits.specs.LateTests.{has_short_contours, is_small}
 
 -- the refusal is returned
-pub told : {T : Type 0} (Is : Option EditFault → Type 0) (fault : EditFault) (P : T → Type 0) → Is (Some fault) → Answers Is (Err fault) P
+pub told : {T : Type 0} (Is : Option EditFault → Type 0) (fault : EditFault) (P : T → Type 0) → Is (Some fault) → AnswersOrRefuses Is (Err fault) P
 told Is EditForm P h = h
 told Is (NoContour name) P h = h
 told Is (NoSection z) P h = h
@@ -34,7 +34,7 @@ told Is (Found fault) P h = h
 told Is NoMemory P h = tt
 
 -- the same refusals in other words
-pub answers_as : {T : Type 0} (Is Are : Option EditFault → Type 0) (r : Result T EditFault) (P Q : T → Type 0) → ((o : Option EditFault) → Is o → Are o) → ((v : T) → P v → Q v) → Answers Is r P → Answers Are r Q
+pub answers_as : {T : Type 0} (Is Are : Option EditFault → Type 0) (r : Result T EditFault) (P Q : T → Type 0) → ((o : Option EditFault) → Is o → Are o) → ((v : T) → P v → Q v) → AnswersOrRefuses Is r P → AnswersOrRefuses Are r Q
 answers_as Is Are (Ok v) P Q f g h = (f None h.0, g v h.1)
 answers_as Is Are (Err EditForm) P Q f g h = f (Some EditForm) h
 answers_as Is Are (Err (NoContour name)) P Q f g h = f (Some (NoContour name)) h
@@ -51,7 +51,7 @@ pub by_own : (S : Parts) (e : Edit) (fault : EditFault) → first_of (own_tests 
 by_own S e fault own = subst (λ (o : Option EditFault). IsOwnOr o (changed S e) (Some fault)) (sym own) refl
 
 -- a refusal by the parts after it
-pub by_late : (S : Parts) (e : Edit) (T : Parts) (r : Result Parts EditFault) → first_of (own_tests S e) ≡ None → T ≡ changed S e → Answers (IsLateRefusal T) r (λ s. s ≡ T) → Answers (IsRefusal S e) r (λ s. s ≡ changed S e)
+pub by_late : (S : Parts) (e : Edit) (T : Parts) (r : Result Parts EditFault) → first_of (own_tests S e) ≡ None → T ≡ changed S e → AnswersOrRefuses (IsLateRefusal T) r (λ s. s ≡ T) → AnswersOrRefuses (IsRefusal S e) r (λ s. s ≡ changed S e)
 by_late S e T r own same h =
     answers_as (IsLateRefusal T) (IsRefusal S e) r (λ s. s ≡ T) (λ s. s ≡ changed S e)
     (λ o k. subst (λ (p : Option EditFault). IsOwnOr p (changed S e) o) (sym own) (subst (λ (U : Parts). IsLateRefusal U o) same k)) (λ s k. k ∙ same) h

@@ -6,12 +6,12 @@ use Rattle.section_edits.specs.declared.edit.Edit.{Edit}
 use Rattle.section_edits.specs.declared.edit.EditFault.{EditFault}
 use Rattle.section_edits.specs.declared.edit.EditFault.TheVariants.{EditForm, NoContour, NoSection, NoVertex, TooFew, NameTwice, Limit, Found, NoMemory}
 use Rattle.section_edits.specs.Changes.{changed}
-use Rattle.section_edits.specs.Refusals.{IsRefusal, Answers, IsEditMemory}
+use Rattle.section_edits.specs.Refusals.{IsRefusal, AnswersOrRefuses, IsEditMemory}
 use Rattle.section_edits.proofs.Answering.{passed}
 use Rattle.section_pairs.specs.SectionFaults.{IsFound}
 use Rattle.section_edits.specs.Edits.{IsSectionsFault, IsApplyFault, by_edit, by_sections}
 
-pub refused_by : {T : Type 0} (Is : Option EditFault → Type 0) (fault : EditFault) (P : T → Type 0) → Answers Is (Err fault) P → (fault ≡ NoMemory) ⊎ Is (Some fault)
+pub refused_by : {T : Type 0} (Is : Option EditFault → Type 0) (fault : EditFault) (P : T → Type 0) → AnswersOrRefuses Is (Err fault) P → (fault ≡ NoMemory) ⊎ Is (Some fault)
 refused_by Is NoMemory P h = inl refl
 refused_by Is EditForm P h = inr h
 refused_by Is (NoContour name) P h = inr h
@@ -22,7 +22,7 @@ refused_by Is (NameTwice name) P h = inr h
 refused_by Is (Limit limit) P h = inr h
 refused_by Is (Found fault) P h = inr h
 
-pub told_refused : (S : Parts) (e : Edit) (fault : EditFault) (P : Parts → Type 0) → Answers (IsRefusal S e) (Err fault) P → IsApplyFault S e fault
+pub told_refused : (S : Parts) (e : Edit) (fault : EditFault) (P : Parts → Type 0) → AnswersOrRefuses (IsRefusal S e) (Err fault) P → IsApplyFault S e fault
 told_refused S e fault P h =
     elim (refused_by (IsRefusal S e) fault P h) [
       | inl q ↦ inl q

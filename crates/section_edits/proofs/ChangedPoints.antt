@@ -9,7 +9,7 @@ use Rattle.fku_types.proofs.ListLaws.{all_join}
 use Rattle.section_core.specs.Laws.{IsSpot}
 use Rattle.section_core.specs.Steps.{is_coordinate}
 use Rattle.section_core.proofs.ItemTests.{coordinate_is}
-use Rattle.section_edits.specs.Changes.{spot_at}
+use Rattle.section_core.specs.Views.{spot_at}
 use Rattle.section_edits.specs.Refusals.{is_far}
 
 pub map-insert : {X Y : Type 0} (f : X → Y) (xs : List X) (i : ℕ) (x : X) → map f (insert xs i x) ≡ insert (map f xs) i (f x)

@@ -12,7 +12,7 @@ use Rattle.section_core.specs.Parts.{ContourParts, SectionParts, LinkParts, Part
 use Rattle.section_core.specs.Laws.{AreDistinct, AreRising, heights}
 use Rattle.section_edits.specs.Contours.{has_name}
 use Rattle.section_edits.specs.Changes.{dropped_in, names_it, without}
-use Rattle.section_edits.specs.Ready.{IsWhole, IsReady}
+use Rattle.section_edits.specs.Ready.{IsWholeContour, IsReadyParts}
 use Rattle.section_edits.proofs.Lawful.{name_of}
 use Rattle.section_edits.proofs.DistinctNames.{distinct_filter}
 
@@ -32,13 +32,13 @@ linked_filter : (rule : PairRule) (p : LinkParts → Bool) (ls : List LinkParts)
 linked_filter Overlap p ls h = ap (filter p) h
 linked_filter Links p ls h = all_filter IsLink p ls h
 
-pub ready_dropped : (S : Parts) (name : List ℕ) → IsReady S → IsReady (without name S)
+pub ready_dropped : (S : Parts) (name : List ℕ) → IsReadyParts S → IsReadyParts (without name S)
 ready_dropped S name r =
     let ss = S.sections in
     let tall = dropped_heights name ss in
     let stays : LinkParts → Bool = λ l. not (names_it name l) in
     record {
-      contours = subst (AllByRecursion IsWhole) (sym (dropped_contours name ss)) (all_filter IsWhole (Other name) (contours_of ss) r.contours);
+      contours = subst (AllByRecursion IsWholeContour) (sym (dropped_contours name ss)) (all_filter IsWholeContour (Other name) (contours_of ss) r.contours);
       names = subst (λ (cs : List ContourParts). AreDistinct (map name_of cs)) (sym (dropped_contours name ss)) (distinct_filter (Other name) (contours_of ss) r.names);
       in_range = subst (AllByRecursion IsCoordinate) (sym tall) r.in_range;
       rising = subst AreRising (sym tall) r.rising;

@@ -16,7 +16,7 @@ use Rattle.text_io.specs.Text.{words}
 use Rattle.section_edits.specs.declared.edit.Edit.{Edit}
 use Rattle.section_edits.specs.declared.edit.Edit.TheVariants.{Move, Insert, Remove, AddContour, RemoveContour}
 use Rattle.section_edits.specs.declared.edit.EditFault.TheVariants.{EditForm, NoContour, NoSection, NoVertex, TooFew, NameTwice, Found}
-use Rattle.section_edits.specs.Lines.{ReadsAs, IsNoEdit}
+use Rattle.section_edits.specs.Lines.{ReadsAsEdit, IsNoEdit}
 use Rattle.section_edits.specs.Changes.{contour_with, changed}
 use Rattle.section_edits.specs.Refusals.{IsRefusal}
 use Rattle.section_edits.proofs.Wording.{none_of, move_only, number_once}
@@ -180,13 +180,13 @@ nothing_left = (
 )
 
 -- ---- lines
-move_line : ReadsAs (words (codes "MOVE b 2 12 12")) (Move b 2 (pos 12) (pos 12))
+move_line : ReadsAsEdit (words (codes "MOVE b 2 12 12")) (Move b 2 (pos 12) (pos 12))
 move_line = ((refl, (refl, (refl, (refl, (refl, tt))))), (refl, lit< tt, refl, refl))
 
-low_line : ReadsAs (words (codes "MOVE\tb 002  -5 5")) (Move b 2 (negsuc 4) (pos 5))
+low_line : ReadsAsEdit (words (codes "MOVE\tb 002  -5 5")) (Move b 2 (negsuc 4) (pos 5))
 low_line = ((refl, (refl, (refl, (refl, (refl, tt))))), (refl, lit< tt, refl, refl))
 
-add_line : ReadsAs (words (codes "ADD 10 d 3 0 0 5 0 0 5")) (AddContour (pos 10) (codes "d") corners)
+add_line : ReadsAsEdit (words (codes "ADD 10 d 3 0 0 5 0 0 5")) (AddContour (pos 10) (codes "d") corners)
 add_line = (
   (refl, (refl, (refl, (refl, (refl, (refl, (refl, (refl, (refl, (refl, tt)))))))))),
   (refl, refl, lit< tt, ((refl, refl), ((refl, refl), ((refl, refl), tt)))),

@@ -15,7 +15,7 @@ use Rattle.fku_types.proofs.ListLaws.{all_join, all_front, all_rest, all_weaker,
 use Rattle.fku_types.proofs.TruthLaws.{int_le_is}
 use Rattle.fku_types.specs.declared.fault.Fault.TheVariants.{NoContours}
 use Rattle.fku_types.specs.declared.fault.LimitName.TheVariants.{ContourVertices, SectionVertices, Vertices, Contours}
-use Rattle.section_core.specs.Parts.{Spot, ContourParts, SectionParts, Parts, IsContour, as_file, asked, contours_of}
+use Rattle.section_core.specs.Parts.{Spot, ContourParts, SectionParts, Parts, IsCountedContour, as_file, asked, contours_of}
 use Rattle.section_core.specs.Laws.{IsSpot, in_range, name_once, rising, within, facts, KeepsAll, BreaksFirst, IsLawful, names, counts, section_vertices, IsPointCount}
 use Rattle.section_core.specs.Accepted.{IsAccepted}
 use Rattle.section_core.proofs.ItemTests.{le_test}
@@ -24,7 +24,7 @@ use Rattle.section_edits.specs.declared.edit.EditFault.TheVariants.{Limit, Found
 use Rattle.section_edits.specs.Changes.{contour_with}
 use Rattle.section_edits.specs.Refusals.{first_of, IsLateRefusal}
 use Rattle.section_edits.specs.LateTests.{has_short_contours, is_small, vertex_count, contour_count, late_tests}
-use Rattle.section_edits.specs.Ready.{IsWhole, IsReady}
+use Rattle.section_edits.specs.Ready.{IsWholeContour, IsReadyParts}
 
 abbrev pub name_of : ContourParts → List ℕ
 name_of c = c.name
@@ -36,12 +36,12 @@ abbrev spots : ContourParts → List Spot
 spots c = c.points
 
 -- contours of accepted parts are whole
-whole_all : (cs : List ContourParts) → AllByRecursion IsContour cs → AllByRecursion IsPointCount (map count_of cs) → AllByRecursion IsSpot (flat_map spots cs) → AllByRecursion IsWhole cs
+whole_all : (cs : List ContourParts) → AllByRecursion IsCountedContour cs → AllByRecursion IsPointCount (map count_of cs) → AllByRecursion IsSpot (flat_map spots cs) → AllByRecursion IsWholeContour cs
 whole_all [] n k s = tt
 whole_all (c ∷ cs) n k s =
     ((n.0, k.0.0, all_front IsSpot c.points (flat_map spots cs) s), whole_all cs n.1 k.1 (all_rest IsSpot c.points (flat_map spots cs) s))
 
-pub ready : (S : Parts) → IsAccepted S → IsReady S
+pub ready : (S : Parts) → IsAccepted S → IsReadyParts S
 ready S a = record {
   contours = whole_all (contours_of S.sections) a.are_parts.contours a.lawful.counted a.lawful.spots;
   names = a.lawful.apart;
@@ -59,7 +59,7 @@ passes true x o e = absurd (cc)
 passes false x o e = (refl, e)
 
 -- the limits
-counted_all : (cs : List ContourParts) → AllByRecursion IsWhole cs → AllByRecursion (λ (c : ContourParts). int_le c.count (pos MAX_CONTOUR_VERTICES) ≡ true) cs → AllByRecursion IsPointCount (map count_of cs)
+counted_all : (cs : List ContourParts) → AllByRecursion IsWholeContour cs → AllByRecursion (λ (c : ContourParts). int_le c.count (pos MAX_CONTOUR_VERTICES) ≡ true) cs → AllByRecursion IsPointCount (map count_of cs)
 counted_all [] w k = tt
 counted_all (c ∷ cs) w k = ((w.0.1, int_le_is c.count (pos MAX_CONTOUR_VERTICES) k.0), counted_all cs w.1 k.1)
 
@@ -99,16 +99,16 @@ contours_sum (s ∷ ss) =
 names_sum : (ss : List SectionParts) → length (names ss) ≡ contour_count ss
 names_sum ss = length-map (contours_of ss) name_of ∙ contours_sum ss
 
-spots_all : (cs : List ContourParts) → AllByRecursion IsWhole cs → AllByRecursion IsSpot (flat_map spots cs)
+spots_all : (cs : List ContourParts) → AllByRecursion IsWholeContour cs → AllByRecursion IsSpot (flat_map spots cs)
 spots_all [] w = tt
 spots_all (c ∷ cs) w = all_join IsSpot c.points (flat_map spots cs) w.0.2 (spots_all cs w.1)
 
-are_contours : (cs : List ContourParts) → AllByRecursion IsWhole cs → AllByRecursion IsContour cs
+are_contours : (cs : List ContourParts) → AllByRecursion IsWholeContour cs → AllByRecursion IsCountedContour cs
 are_contours [] w = tt
 are_contours (c ∷ cs) w = (w.0.0, are_contours cs w.1)
 
 -- ready parts that are within the limits, as facts of texts
-kept_first : (S : Parts) → IsReady S → KeepsAll (in_range ∷ name_once ∷ rising ∷ []) (facts (as_file S))
+kept_first : (S : Parts) → IsReadyParts S → KeepsAll (in_range ∷ name_once ∷ rising ∷ []) (facts (as_file S))
 kept_first S r =
     subst (KeepsAll (in_range ∷ name_once ∷ rising ∷ [])) (sym (facts-one S))
     (((r.in_range, tt), spots_all (contours_of S.sections) r.contours, r.weights), ((r.names, tt), ((r.rising, tt), tt)))
@@ -119,7 +119,7 @@ record Within (ss : List SectionParts) : Type 0 where
   few_vertices : sum_by asked (counts ss) ≤ MAX_VERTICES
   few_contours : length (names ss) ≤ MAX_CONTOURS
 
-lawful : (S : Parts) → IsReady S → Within S.sections → IsLawful S
+lawful : (S : Parts) → IsReadyParts S → Within S.sections → IsLawful S
 lawful S r w = record {
   in_range = r.in_range;
   spots = spots_all (contours_of S.sections) r.contours;
@@ -134,7 +134,7 @@ lawful S r w = record {
   few_links = r.few_links;
 }
 
-within_by : (S : Parts) → IsReady S → list_all has_short_contours S.sections ≡ true → list_all is_small S.sections ≡ true → nat_lt MAX_VERTICES (vertex_count S.sections) ≡ false → nat_lt MAX_CONTOURS (contour_count S.sections) ≡ false → Within S.sections
+within_by : (S : Parts) → IsReadyParts S → list_all has_short_contours S.sections ≡ true → list_all is_small S.sections ≡ true → nat_lt MAX_VERTICES (vertex_count S.sections) ≡ false → nat_lt MAX_CONTOURS (contour_count S.sections) ≡ false → Within S.sections
 within_by S r p q t u = record {
   counted = counted_all (contours_of S.sections) r.contours (short_all S.sections p);
   small = small_all S.sections q;
@@ -161,7 +161,7 @@ no_contours : (cs : List ContourParts) → length cs ≡ 0 → cs ≡ []
 no_contours [] e = refl
 no_contours (c ∷ cs) e = absurd (omega (arith, e))
 
-late_by : (S : Parts) → IsReady S → (a b c d e : Bool) → list_all has_short_contours S.sections ≡ a → list_all is_small S.sections ≡ b → nat_lt MAX_VERTICES (vertex_count S.sections) ≡ c → nat_lt MAX_CONTOURS (contour_count S.sections) ≡ d → (contour_count S.sections == 0) ≡ e
+late_by : (S : Parts) → IsReadyParts S → (a b c d e : Bool) → list_all has_short_contours S.sections ≡ a → list_all is_small S.sections ≡ b → nat_lt MAX_VERTICES (vertex_count S.sections) ≡ c → nat_lt MAX_CONTOURS (contour_count S.sections) ≡ d → (contour_count S.sections == 0) ≡ e
     → IsLateRefusal S (first_of ((not a, Limit ContourVertices) ∷ (not b, Limit SectionVertices) ∷ (c, Limit Vertices) ∷ (d, Limit Contours) ∷ (e, Found NoContours) ∷ []))
 late_by S r false b c d e p q t u v =
     let k = kept_first S r in
@@ -193,12 +193,12 @@ late_by S r true true false false false p q t u v = (
 )
 
 -- what the tests find is the refusal of ready parts
-pub late_is : (S : Parts) → IsReady S → IsLateRefusal S (first_of (late_tests S.sections))
+pub late_is : (S : Parts) → IsReadyParts S → IsLateRefusal S (first_of (late_tests S.sections))
 late_is S r = late_by S r _ _ _ _ _ refl refl refl refl refl
 
-pub accepted : (S : Parts) → IsReady S → IsLateRefusal S None → IsAccepted S
+pub accepted : (S : Parts) → IsReadyParts S → IsLateRefusal S None → IsAccepted S
 accepted S r h = record { are_parts = record { contours = are_contours (contours_of S.sections) r.contours; links = r.links }; lawful = h.0; contour = h.1 }
 
 -- a contour of enough points in range is whole
-pub whole_with : (name : List ℕ) (ps : List Spot) → is_name name ≡ true → 3 ≤ length ps → AllByRecursion IsSpot ps → IsWhole (contour_with name ps)
+pub whole_with : (name : List ℕ) (ps : List Spot) → is_name name ≡ true → 3 ≤ length ps → AllByRecursion IsSpot ps → IsWholeContour (contour_with name ps)
 whole_with name ps n e s = ((n, refl), (omega (arith, ints)), s)

@@ -22,8 +22,8 @@ use Rattle.row_paths.specs.Solutions.{Solution, Solves}
 use Rattle.pair_pool.specs.Solvers.{SolvesEach}
 use Rattle.section_edits.specs.declared.plans.Origin.{Origin}
 use Rattle.section_edits.specs.declared.plans.Origin.TheVariants.{Kept, Fresh}
-use Rattle.section_edits.specs.Fresh.{same_points, same_rule, is_same, is_fresh, fresh}
-use Rattle.section_edits.specs.Plans.{IsSameAt, ComesFrom, IsPlanOf, IsAmong, no_solution, solution_from}
+use Rattle.section_edits.specs.Fresh.{same_points, same_rule, is_same_strip, is_fresh, fresh}
+use Rattle.section_edits.specs.Plans.{IsSameStripAt, ComesFrom, IsPlanOf, IsAmong, no_solution, solution_from}
 
 abbrev pub strips_of : List GapPair → List Strip
 strips_of ps = strips_in (map pair_parts ps)
@@ -45,8 +45,8 @@ pub strips_more : (ps : List GapPair) (i : ℕ) (x : GapPair) → i < length ps 
 strips_more ps i x l e =
     ap strips_of (take_next ps i x l e) ∙ ap strips_in (map-append pair_parts (take i ps) (x ∷ [])) ∙ map-append strip_of (map pair_parts (take i ps)) (pair_parts x ∷ [])
 
-pub same_here : (ps : List GapPair) (k : ℕ) (x : GapPair) (p : Strip) → k < length ps → x ≡ get_or ps k x → is_same p x.pair ≡ true → IsSameAt p (strips_of ps) k
-same_here ps k x p l e s = (omega (arith, strips_count ps), λ q. ap (is_same p) (strip_at ps k x q l e) ∙ s)
+pub same_here : (ps : List GapPair) (k : ℕ) (x : GapPair) (p : Strip) → k < length ps → x ≡ get_or ps k x → is_same_strip p x.pair ≡ true → IsSameStripAt p (strips_of ps) k
+same_here ps k x p l e s = (omega (arith, strips_count ps), λ q. ap (is_same_strip p) (strip_at ps k x q l e) ∙ s)
 
 -- a strip that is the same is not new
 abbrev one_if : Bool → ℕ
@@ -79,16 +79,16 @@ more_solving kept solving s p (Fresh k) h =
 one_more : (strips : List Strip) (origins : List Origin) (p : Strip) (r : Origin) → length origins ≡ length strips → length (origins ++ r ∷ []) ≡ length (strips ++ p ∷ [])
 one_more strips origins p r e = omega (arith, length-append origins (r ∷ []), length-append strips (p ∷ []))
 
-pub plan_kept : (kept strips solving : List Strip) (origins : List Origin) (p : Strip) (k : ℕ) → IsPlanOf kept strips origins solving → IsSameAt p kept k → IsPlanOf kept (strips ++ p ∷ []) (origins ++ Kept k ∷ []) solving
+pub plan_kept : (kept strips solving : List Strip) (origins : List Origin) (p : Strip) (k : ℕ) → IsPlanOf kept strips origins solving → IsSameStripAt p kept k → IsPlanOf kept (strips ++ p ∷ []) (origins ++ Kept k ∷ []) solving
 plan_kept kept strips solving origins p k h s =
-    let known : is_fresh kept p ≡ false = ap not (list_any_at (is_same p) kept k p s.0 (s.1 p)) in
+    let known : is_fresh kept p ≡ false = ap not (list_any_at (is_same_strip p) kept k p s.0 (s.1 p)) in
     record {
       count = one_more strips origins p (Kept k) h.count;
       each = each_push kept solving strips origins p (Kept k) h.count h.each s;
       fresh = omega (arith, h.fresh, fresh_more kept strips p, ap one_if known);
     }
 
-pub plan_fresh : (kept strips solving : List Strip) (origins : List Origin) (p : Strip) (k : ℕ) → IsPlanOf kept strips origins solving → list_any (is_same p) kept ≡ false → k ≡ length solving → IsPlanOf kept (strips ++ p ∷ []) (origins ++ Fresh k ∷ []) (solving ++ p ∷ [])
+pub plan_fresh : (kept strips solving : List Strip) (origins : List Origin) (p : Strip) (k : ℕ) → IsPlanOf kept strips origins solving → list_any (is_same_strip p) kept ≡ false → k ≡ length solving → IsPlanOf kept (strips ++ p ∷ []) (origins ++ Fresh k ∷ []) (solving ++ p ∷ [])
 plan_fresh kept strips solving origins p k h none last =
     let new : is_fresh kept p ≡ true = ap not none in
     let here : ComesFrom kept (solving ++ p ∷ []) p (Fresh k) =
@@ -119,14 +119,14 @@ ids_aside : (p q : Strip) (s : Solution) → Solves q s → Solves (with_ids p q
 unfolding arcs
 ids_aside p q s h = record { chosen = h.chosen; cost = h.cost }
 
-same_but_ids : (p q : Strip) → is_same p q ≡ true → with_ids p q ≡ p
+same_but_ids : (p q : Strip) → is_same_strip p q ≡ true → with_ids p q ≡ p
 same_but_ids p q e =
     let a = and_parts (same_rule p.cost q.cost) (same_points p.low q.low && same_points p.high q.high) e in
     let b = and_parts (same_points p.low q.low) (same_points p.high q.high) a.1 in
     ap₂ (λ (low high : List Point). let r : Strip = record { low = low; low_ids = p.low_ids; high = high; high_ids = p.high_ids; cost = q.cost } in r) (sym (points_same p.low q.low b.0)) (sym (points_same p.high q.high b.1))
     ∙ ap (λ (cost : CostRule). let r : Strip = record { low = p.low; low_ids = p.low_ids; high = p.high; high_ids = p.high_ids; cost = cost } in r) (sym (rule_is p.cost q.cost a.0))
 
-pub solves_same : (p q : Strip) (s : Solution) → is_same p q ≡ true → Solves q s → Solves p s
+pub solves_same : (p q : Strip) (s : Solution) → is_same_strip p q ≡ true → Solves q s → Solves p s
 solves_same p q s e h = subst (λ (r : Strip). Solves r s) (same_but_ids p q e) (ids_aside p q s h)
 
 -- the solutions that a plan gives

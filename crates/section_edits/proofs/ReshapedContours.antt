@@ -8,13 +8,13 @@ use Rattle.section_core.specs.Parts.{Spot, ContourParts, SectionParts, Parts, co
 use Rattle.section_core.specs.Laws.{IsSpot, AreDistinct, AreRising, heights}
 use Rattle.section_edits.specs.Contours.{has_name}
 use Rattle.section_edits.specs.Changes.{contour_with, reshaped, reshaped_in, with_spots}
-use Rattle.section_edits.specs.Ready.{IsWhole, IsReady}
+use Rattle.section_edits.specs.Ready.{IsWholeContour, IsReadyParts}
 use Rattle.section_edits.proofs.Lawful.{name_of, whole_with}
 
-reshaped_whole : (name : List ℕ) (ps : List Spot) (cs : List ContourParts) → 3 ≤ length ps → AllByRecursion IsSpot ps → AllByRecursion IsWhole cs → AllByRecursion IsWhole (map (reshaped name ps) cs)
+reshaped_whole : (name : List ℕ) (ps : List Spot) (cs : List ContourParts) → 3 ≤ length ps → AllByRecursion IsSpot ps → AllByRecursion IsWholeContour cs → AllByRecursion IsWholeContour (map (reshaped name ps) cs)
 reshaped_whole name ps [] e s w = tt
 reshaped_whole name ps (c ∷ cs) e s w =
-    (cond_both (has_name name c) (contour_with c.name ps) c IsWhole (λ is. whole_with c.name ps w.0.0.0 e s) (λ no. w.0), reshaped_whole name ps cs e s w.1)
+    (cond_both (has_name name c) (contour_with c.name ps) c IsWholeContour (λ is. whole_with c.name ps w.0.0.0 e s) (λ no. w.0), reshaped_whole name ps cs e s w.1)
 
 reshaped_contours : (name : List ℕ) (ps : List Spot) (ss : List SectionParts) → contours_of (map (reshaped_in name ps) ss) ≡ map (reshaped name ps) (contours_of ss)
 reshaped_contours name ps [] = refl
@@ -30,12 +30,12 @@ reshaped_heights : (name : List ℕ) (ps : List Spot) (ss : List SectionParts) �
 reshaped_heights name ps [] = refl
 reshaped_heights name ps (s ∷ ss) = ap (λ (zs : List ℤ). s.z ∷ zs) (reshaped_heights name ps ss)
 
-pub ready_reshaped : (S : Parts) (name : List ℕ) (ps : List Spot) → IsReady S → 3 ≤ length ps → AllByRecursion IsSpot ps → IsReady (with_spots name ps S)
+pub ready_reshaped : (S : Parts) (name : List ℕ) (ps : List Spot) → IsReadyParts S → 3 ≤ length ps → AllByRecursion IsSpot ps → IsReadyParts (with_spots name ps S)
 ready_reshaped S name ps r e s =
     let ss = S.sections in
     let tall = reshaped_heights name ps ss in
     record {
-      contours = subst (AllByRecursion IsWhole) (sym (reshaped_contours name ps ss)) (reshaped_whole name ps (contours_of ss) e s r.contours);
+      contours = subst (AllByRecursion IsWholeContour) (sym (reshaped_contours name ps ss)) (reshaped_whole name ps (contours_of ss) e s r.contours);
       names = subst AreDistinct (sym (ap (map name_of) (reshaped_contours name ps ss) ∙ reshaped_names name ps (contours_of ss))) r.names;
       in_range = subst (AllByRecursion IsCoordinate) (sym tall) r.in_range;
       rising = subst AreRising (sym tall) r.rising;

@@ -2,19 +2,11 @@
 use Rattle.std.specs.Prelude.{ℕ, ℤ, pos, Bool, not, ◌||◌, List, [], ◌∷◌, ◌++◌, map, length, filter, bytes_eq, slice_set, if◌then◌else◌}
 use Rattle.std.specs.Ordering.{int_eq}
 use Rattle.std.specs.List.{insert, remove}
-use Rattle.fku_types.specs.declared.points.Spot.{Spot as Place}
-use Rattle.fku_types.specs.declared.points.Point.{Point}
 use Rattle.section_core.specs.Parts.{Spot, ContourParts, SectionParts, LinkParts, Parts}
 use Rattle.section_edits.specs.declared.edit.Edit.{Edit}
 use Rattle.section_edits.specs.declared.edit.Edit.TheVariants.{Move, Insert, Remove, AddContour, RemoveContour}
 use Rattle.section_edits.specs.Contours.{has_name, spots_of}
-
-abbrev pub spot_at : Place → Spot
-spot_at p = (p.x, p.y)
-
--- the point at a place of a height
-abbrev pub placed : ℤ → Place → Point
-placed z p = record { x = p.x; y = p.y; z = z }
+use Rattle.section_core.specs.Views.{spot_at}
 
 -- a contour of these points
 abbrev pub contour_with : List ℕ → List Spot → ContourParts
@@ -39,8 +31,14 @@ with_spots name spots S = record {
 abbrev pub added_in : ℤ → ContourParts → SectionParts → SectionParts
 added_in z c s = if int_eq z s.z then record { z = s.z; contours = s.contours ++ c ∷ [] } else s
 
-abbrev pub with_contour : ℤ → ContourParts → Parts → Parts
-with_contour z c S = record { cost = S.cost; rule = S.rule; sections = map (added_in z c) S.sections; links = S.links }
+abbrev pub with_new_contour : ℤ → ContourParts → Parts → Parts
+with_new_contour z c S = record {
+  cost = S.cost;
+  rule = S.rule;
+  sections = map (added_in z c) S.sections;
+  links =
+      S.links;
+}
 
 -- the section without the contour of a name
 abbrev pub dropped_in : List ℕ → SectionParts → SectionParts
@@ -63,5 +61,5 @@ abbrev pub changed : Parts → Edit → Parts
 changed S (Move name index x y) = with_spots name (slice_set (spots_of S.sections name) index (x, y)) S
 changed S (Insert name index x y) = with_spots name (insert (spots_of S.sections name) index (x, y)) S
 changed S (Remove name index) = with_spots name (remove (spots_of S.sections name) index) S
-changed S (AddContour z name points) = with_contour z (contour_with name (map spot_at points)) S
+changed S (AddContour z name points) = with_new_contour z (contour_with name (map spot_at points)) S
 changed S (RemoveContour name) = without name S

@@ -39,21 +39,21 @@ abbrev pub IsSpotInRange : Spot → Type 0
 IsSpotInRange p = InRange p.x × InRange p.y
 
 -- an edit that a line may stand for: names are names, indices and counts below 2 ^ 32, coordinates and heights in range
-abbrev pub IsWritten : Edit → Type 0
-IsWritten (Move name index x y) = IsName name × IsIndex index × InRange x × InRange y
-IsWritten (Insert name index x y) = IsName name × IsIndex index × InRange x × InRange y
-IsWritten (Remove name index) = IsName name × IsIndex index
-IsWritten (AddContour z name points) =
+abbrev pub IsWritableEdit : Edit → Type 0
+IsWritableEdit (Move name index x y) = IsName name × IsIndex index × InRange x × InRange y
+IsWritableEdit (Insert name index x y) = IsName name × IsIndex index × InRange x × InRange y
+IsWritableEdit (Remove name index) = IsName name × IsIndex index
+IsWritableEdit (AddContour z name points) =
     InRange z × IsName name × IsIndex (length points) × AllByRecursion IsSpotInRange points
-IsWritten (RemoveContour name) = IsName name
+IsWritableEdit (RemoveContour name) = IsName name
 
 -- the words of a line are those of an edit: keywords and names byte for byte, numbers by value
-abbrev pub ReadsAs : Line → Edit → Type 0
-ReadsAs line e = Matches line (edit_words e) × IsWritten e
+abbrev pub ReadsAsEdit : Line → Edit → Type 0
+ReadsAsEdit line e = Matches line (edit_words e) × IsWritableEdit e
 
 -- they are those of no edit
 abbrev pub IsNoEdit : Line → Type 0
-IsNoEdit line = (e : Edit) → ReadsAs line e → ⊥
+IsNoEdit line = (e : Edit) → ReadsAsEdit line e → ⊥
 
 -- what the reader of a line refuses; `NoMemory` is not a fault of a line
 abbrev pub IsLineFault : List ℕ → EditFault → Type 0

@@ -6,15 +6,15 @@ use Rattle.pair_pool.specs.Solvers.{referents}
 use Rattle.section_edits.specs.declared.plans.Origin.{Origin}
 use Rattle.section_edits.specs.declared.plans.Origin.TheVariants.{Kept, Fresh}
 use Rattle.section_edits.specs.declared.plans.Plan.{Plan}
-use Rattle.section_edits.specs.Fresh.{is_same, fresh}
+use Rattle.section_edits.specs.Fresh.{is_same_strip, fresh}
 
 -- the strip at a place is the same
-abbrev pub IsSameAt : Strip → List Strip → ℕ → Type 0
-IsSameAt p kept k = (k < length kept) × ((q : Strip) → is_same p (slice_index_or kept k q) ≡ true)
+abbrev pub IsSameStripAt : Strip → List Strip → ℕ → Type 0
+IsSameStripAt p kept k = (k < length kept) × ((q : Strip) → is_same_strip p (slice_index_or kept k q) ≡ true)
 
 -- the strip is the same as a kept one; or it is one of the new ones
 abbrev pub ComesFrom : List Strip → List Strip → Strip → Origin → Type 0
-ComesFrom kept solving p (Kept k) = IsSameAt p kept k
+ComesFrom kept solving p (Kept k) = IsSameStripAt p kept k
 ComesFrom kept solving p (Fresh k) = (k < length solving) × ((q : Strip) → slice_index_or solving k q ≡ p)
 
 -- each pair has its origin, and just the new ones are to be solved

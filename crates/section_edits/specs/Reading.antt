@@ -9,7 +9,7 @@ use Rattle.section_edits.specs.declared.lines.Vertex.{Vertex}
 use Rattle.section_edits.specs.declared.edit.Edit.{Edit}
 use Rattle.section_edits.specs.declared.edit.EditFault.{EditFault}
 use Rattle.section_edits.specs.declared.edit.EditFault.TheVariants.{EditForm, NoMemory}
-use Rattle.section_edits.specs.Lines.{IsName, IsIndex, InRange, IsSpotInRange, ReadsAs, IsNoEdit, spot_words}
+use Rattle.section_edits.specs.Lines.{IsName, IsIndex, InRange, IsSpotInRange, ReadsAsEdit, IsNoEdit, spot_words}
 
 -- the words of the code, as bytes
 abbrev pub texts : List (Bor (List ℕ)) → List (List ℕ)
@@ -25,7 +25,7 @@ NoCoordinate word = (z : ℤ) → InRange z → number_of word ≡ Some z → �
 
 -- the words are those of this edit, or of none
 abbrev pub IsReading : List (List ℕ) → Result Edit EditFault → Type 0
-IsReading ws (Ok e) = ReadsAs ws e
+IsReading ws (Ok e) = ReadsAsEdit ws e
 IsReading ws (Err EditForm) = IsNoEdit ws
 IsReading ws (Err NoMemory) = Unit {0}
 IsReading ws (Err _) = ⊥

@@ -11,7 +11,7 @@ use Rattle.section_edits.specs.declared.edit.Edit.{Edit}
 use Rattle.section_edits.specs.declared.edit.Edit.TheVariants.{Move, Insert, Remove, AddContour, RemoveContour}
 use Rattle.section_edits.specs.declared.edit.EditFault.{EditFault}
 use Rattle.section_edits.specs.declared.edit.EditFault.TheVariants.{EditForm, NoContour, NoSection, NoVertex, TooFew, NameTwice, Limit, Found, NoMemory}
-use Rattle.section_edits.specs.Contours.{has_contour, has_section, spots_of}
+use Rattle.section_edits.specs.Contours.{has_contour_named, has_section_at, spots_of}
 use Rattle.section_edits.specs.Changes.{changed}
 
 -- a test, and the refusal of an edit for which it is true
@@ -34,26 +34,26 @@ vertex_count_of S name = length (spots_of S.sections name)
 abbrev pub own_tests : Parts → Edit → List Test
 own_tests S (Move name index x y) =
     (is_far (record { x = x; y = y }), EditForm)
-    ∷ (not (has_contour S.sections name), NoContour name)
+    ∷ (not (has_contour_named S.sections name), NoContour name)
     ∷ (nat_le (vertex_count_of S name) index, NoVertex name index)
     ∷ []
 own_tests S (Insert name index x y) =
     (is_far (record { x = x; y = y }), EditForm)
-    ∷ (not (has_contour S.sections name), NoContour name)
+    ∷ (not (has_contour_named S.sections name), NoContour name)
     ∷ (nat_lt (vertex_count_of S name) index, NoVertex name index)
     ∷ []
 own_tests S (Remove name index) =
-    (not (has_contour S.sections name), NoContour name)
+    (not (has_contour_named S.sections name), NoContour name)
     ∷ (nat_le (vertex_count_of S name) index, NoVertex name index)
     ∷ (nat_le (vertex_count_of S name) 3, TooFew name)
     ∷ []
 own_tests S (AddContour z name points) =
     (list_any is_far points, EditForm)
-    ∷ (not (has_section S.sections z), NoSection z)
+    ∷ (not (has_section_at S.sections z), NoSection z)
     ∷ (nat_lt (length points) 3, TooFew name)
-    ∷ (has_contour S.sections name, NameTwice name)
+    ∷ (has_contour_named S.sections name, NameTwice name)
     ∷ []
-own_tests S (RemoveContour name) = (not (has_contour S.sections name), NoContour name) ∷ []
+own_tests S (RemoveContour name) = (not (has_contour_named S.sections name), NoContour name) ∷ []
 
 -- why the parts after an edit are refused, if they are: a limit is the first law of texts that they break, or they have
 -- no contour
@@ -73,10 +73,10 @@ abbrev pub IsRefusal : Parts → Edit → Option EditFault → Type 0
 IsRefusal S e refusal = IsOwnOr (first_of (own_tests S e)) (changed S e) refusal
 
 -- a call returns a value that has P, where there is no refusal, or the refusal; memory may run out
-abbrev pub Answers : {T : Type 0} → (Option EditFault → Type 0) → Result T EditFault → (T → Type 0) → Type 0
-Answers Is (Ok v) P = Is None × P v
-Answers Is (Err NoMemory) P = Unit {0}
-Answers Is (Err fault) P = Is (Some fault)
+abbrev pub AnswersOrRefuses : {T : Type 0} → (Option EditFault → Type 0) → Result T EditFault → (T → Type 0) → Type 0
+AnswersOrRefuses Is (Ok v) P = Is None × P v
+AnswersOrRefuses Is (Err NoMemory) P = Unit {0}
+AnswersOrRefuses Is (Err fault) P = Is (Some fault)
 
 -- memory runs out only where the edit's own tests refuse nothing: it is asked for after them, and before the limits are
 -- tested

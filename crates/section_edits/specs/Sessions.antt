@@ -38,6 +38,6 @@ abbrev pub FaultCount : Parts → List PairParts → ℕ → ℕ → Type 0 → 
 FaultCount S before old new IsWanting = (new ≡ old) ⊎ (IsWanting × CountedSome S before old new)
 
 -- how many of the pairs are new, since no pair before has their points and cost rule, and how many are not
-pub record Counts (before after : List PairParts) (done : Done) : Type 0 where
+pub record CountsNew (before after : List PairParts) (done : Done) : Type 0 where
   pub solved : done.solved ≡ fresh (strips_in before) (strips_in after)
   pub reused : done.solved + done.reused ≡ length after

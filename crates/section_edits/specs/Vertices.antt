@@ -6,7 +6,7 @@ use Rattle.section_edits.specs.declared.edit.Edit.{Edit}
 use Rattle.section_edits.specs.declared.edit.Edit.TheVariants.{Move, Insert, Remove}
 use Rattle.section_edits.specs.declared.editing.VertexChange.{VertexChange}
 use Rattle.section_edits.specs.declared.editing.VertexChange.TheVariants.{Moved, Inserted, Removed}
-use Rattle.section_edits.specs.Changes.{spot_at}
+use Rattle.section_core.specs.Views.{spot_at}
 use Rattle.section_edits.specs.Refusals.{is_far}
 
 -- the edit that makes it

@@ -1,9 +1,11 @@
 //! Copies of contours, sections and links with a change.
 ghost use Rattle.std.specs.Prelude.{◌≡◌, All, IfOk, filter, map, not};
-ghost use Rattle.section_core.specs.Flat.{IsLevel, IsLevelSection};
+ghost use Rattle.section_core.specs.Flat.{IsAtHeight, IsLevelSection};
 ghost use Rattle.section_core.specs.Views.{contour_parts, section_parts, link_parts};
 ghost use Rattle.section_edits.specs.Contours.{has_name};
-ghost use Rattle.section_edits.specs.Changes.{spot_at, placed, contour_with, reshaped, reshaped_in, added_in, dropped_in, names_it};
+ghost use Rattle.section_edits.specs.Changes.{contour_with, reshaped, reshaped_in, added_in, dropped_in, names_it};
+ghost use Rattle.section_core.specs.Views.{placed};
+ghost use Rattle.section_core.specs.Views.{spot_at};
 
 use crate::contours::has_name;
 use fku_types::{Name, NoMemory, Point, Spot};
@@ -39,7 +41,7 @@ fn contour_with(
     spots: &[Spot],
 ) -> Result<Contour, NoMemory>
     ensures parts { IfOk result (λ c. contour_parts c ≡ contour_with name.now (map spot_at spots.now)) }
-    ensures level { IfOk result (IsLevel section.now.z) }
+    ensures level { IfOk result (IsAtHeight section.now.z) }
 {
     let points = all_placed(alloc, section, spots)?;
     let name = name.copy();
@@ -54,10 +56,10 @@ fn reshaped(
     name: &Name,
     spots: &[Spot],
 ) -> Result<Contour, NoMemory>
-    requires { IsLevel section.now.z contour.now }
+    requires { IsAtHeight section.now.z contour.now }
     ensures parts { IfOk result (λ c.
         contour_parts c ≡ reshaped name.now (map spot_at spots.now) (contour_parts contour.now)) }
-    ensures level { IfOk result (IsLevel section.now.z) }
+    ensures level { IfOk result (IsAtHeight section.now.z) }
 {
     if has_name(name, contour) {
         contour_with(alloc, section, &contour.name, spots)
@@ -152,7 +154,7 @@ fn others(alloc: Global, section: &Section, name: &Name) -> Result<Vec<Contour>,
     ensures parts { IfOk result (λ v.
         map contour_parts v.items
         ≡ filter (λ c. not (has_name name.now c)) (map contour_parts section.now.contours.items)) }
-    ensures level { IfOk result (λ v. All (IsLevel section.now.z) v.items) }
+    ensures level { IfOk result (λ v. All (IsAtHeight section.now.z) v.items) }
 {
     let mut contours = Vec::new(alloc);
     for contour in &section.contours {

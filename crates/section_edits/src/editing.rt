@@ -11,11 +11,12 @@ ghost use Rattle.section_core.specs.Views.{spot_of, section_parts};
 ghost use Rattle.section_edits.specs.declared.edit.Edit.TheVariants.{AddContour, RemoveContour};
 ghost use Rattle.section_edits.specs.declared.edit.EditFault.TheVariants as edit_faults;
 ghost use Rattle.section_edits.specs.Contours.{contour_of};
-ghost use Rattle.section_edits.specs.Changes.{spot_at, changed, with_spots, with_contour, contour_with};
-ghost use Rattle.section_edits.specs.Refusals.{Answers, IsEditMemory, IsLateRefusal, IsRefusal, is_far, first_of};
+ghost use Rattle.section_edits.specs.Changes.{changed, with_spots, with_new_contour, contour_with};
+ghost use Rattle.section_core.specs.Views.{spot_at};
+ghost use Rattle.section_edits.specs.Refusals.{AnswersOrRefuses, IsEditMemory, IsLateRefusal, IsRefusal, is_far, first_of};
 ghost use Rattle.section_edits.specs.Vertices.{vertex_edit, spots_after, is_out, lacks_vertex, leaves_few};
 ghost use Rattle.section_edits.specs.LateTests.{is_small, vertex_count, contour_count, late_tests};
-ghost use Rattle.section_edits.specs.Ready.{IsReady};
+ghost use Rattle.section_edits.specs.Ready.{IsReadyParts};
 
 use crate::changes::{with_contour, with_spots, without_contour, without_links};
 use crate::contours::{contour_of, has_section};
@@ -146,9 +147,10 @@ fn remade(
     sections: Vec<Section>,
     links: Vec<Link>,
 ) -> Result<Sections, EditFault>
-    requires ready { IsReady (ended_parts old.now.cost old.now.rule sections.items links.items) }
+    requires ready { IsReadyParts (ended_parts old.now.cost old.now.rule sections.items links.items) }
     requires flat { AreFlat sections.items }
-    ensures { Answers (IsLateRefusal (ended_parts old.now.cost old.now.rule sections.items links.items)) result (λ s.
+    ensures { AnswersOrRefuses (IsLateRefusal (ended_parts old.now.cost old.now.rule sections.items links.items)) result
+        (λ s.
         s ≡ ended_parts old.now.cost old.now.rule sections.items links.items) }
 {
     if let Some(fault) = late_refusal(&sections) {
@@ -174,7 +176,7 @@ fn reshaped(
 ) -> Result<Sections, EditFault>
     requires enough { 3 ≤ length spots.now }
     requires in_range { AllByRecursion IsSpot (map spot_at spots.now) }
-    ensures { Answers (IsLateRefusal (with_spots name.now (map spot_at spots.now) sections.now)) result (λ s.
+    ensures { AnswersOrRefuses (IsLateRefusal (with_spots name.now (map spot_at spots.now) sections.now)) result (λ s.
         s ≡ with_spots name.now (map spot_at spots.now) sections.now) }
 {
     let changed = with_spots(alloc, sections.sections(), name, spots)?;
@@ -300,7 +302,7 @@ fn respotted(
     index: u32,
     change: &VertexChange,
 ) -> Result<Sections, EditFault>
-    ensures answers { Answers (IsRefusal sections.now (vertex_edit name.now index change.now)) result (λ s.
+    ensures answers { AnswersOrRefuses (IsRefusal sections.now (vertex_edit name.now index change.now)) result (λ s.
         s ≡ changed sections.now (vertex_edit name.now index change.now)) }
     ensures memory { IfErr result (IsEditMemory sections.now (vertex_edit name.now index change.now)) }
 {
@@ -342,9 +344,9 @@ fn grown(
     requires new { contour_of sections.now.sections name.now ≡ None }
     requires enough { 3 ≤ length spots.now }
     requires in_range { AllByRecursion IsSpot (map spot_at spots.now) }
-    ensures { Answers
-        (IsLateRefusal (with_contour z (contour_with name.now (map spot_at spots.now)) sections.now))
-        result (λ s. s ≡ with_contour z (contour_with name.now (map spot_at spots.now)) sections.now) }
+    ensures { AnswersOrRefuses
+        (IsLateRefusal (with_new_contour z (contour_with name.now (map spot_at spots.now)) sections.now))
+        result (λ s. s ≡ with_new_contour z (contour_with name.now (map spot_at spots.now)) sections.now) }
 {
     let changed = with_contour(alloc, sections.sections(), z, name, spots)?;
     let links = Link::copy_all(alloc, sections.links())?;
@@ -358,7 +360,7 @@ fn added(
     name: &Name,
     points: &[Spot],
 ) -> Result<Sections, EditFault>
-    ensures answers { Answers (IsRefusal sections.now (AddContour z name.now points.now)) result (λ s.
+    ensures answers { AnswersOrRefuses (IsRefusal sections.now (AddContour z name.now points.now)) result (λ s.
         s ≡ changed sections.now (AddContour z name.now points.now)) }
     ensures memory { IfErr result (IsEditMemory sections.now (AddContour z name.now points.now)) }
 {
@@ -381,7 +383,7 @@ fn added(
 }
 
 fn dropped(alloc: Global, sections: &Sections, name: &Name) -> Result<Sections, EditFault>
-    ensures answers { Answers (IsRefusal sections.now (RemoveContour name.now)) result (λ s.
+    ensures answers { AnswersOrRefuses (IsRefusal sections.now (RemoveContour name.now)) result (λ s.
         s ≡ changed sections.now (RemoveContour name.now)) }
     ensures memory { IfErr result (IsEditMemory sections.now (RemoveContour name.now)) }
 {
@@ -400,7 +402,7 @@ fn dropped(alloc: Global, sections: &Sections, name: &Name) -> Result<Sections, 
 /// `MAX_SECTION_VERTICES` a section, `MAX_VERTICES` in all, and `MAX_CONTOURS` contours; no contour left (`Found`).
 /// `NoMemory` comes only where the tests before the limits refuse nothing: memory is asked for after them.
 pub fn edited(alloc: Global, sections: &Sections, edit: &Edit) -> Result<Sections, EditFault>
-    ensures answers { Answers (IsRefusal sections.now edit.now) result (λ s. s ≡ changed sections.now edit.now) }
+    ensures answers { AnswersOrRefuses (IsRefusal sections.now edit.now) result (λ s. s ≡ changed sections.now edit.now) }
     // Memory is asked for after the edit's own tests: what they refuse is reported whatever memory there is.
     ensures memory { IfErr result (IsEditMemory sections.now edit.now) }
 {

@@ -2,7 +2,7 @@
 ghost use Rattle.std.specs.Prelude.{◌≡◌, ◌∷◌, pos, Some, codes, IfOk, IfErr, MatchOption, bytes_eq};
 ghost use Rattle.text_io.specs.Text.{words, number_of};
 ghost use Rattle.section_edits.specs.declared.edit.EditFault.TheVariants as edit_faults;
-ghost use Rattle.section_edits.specs.Lines.{InRange, ReadsAs, IsLineFault};
+ghost use Rattle.section_edits.specs.Lines.{InRange, ReadsAsEdit, IsLineFault};
 ghost use Rattle.section_edits.specs.Reading.{texts, IsReading, NoIndex, NoCoordinate, NoVertex, IsVertexOf, NoSpot, IsSpotOf, NoSpots, AreSpots};
 
 use crate::edit::{Edit, EditFault, Spots};
@@ -236,7 +236,7 @@ fn edit_of(alloc: Global, words: &[&[u8]]) -> Result<Edit, EditFault>
 /// outside 0 to 4,294,967,295, or a coordinate or height outside its range; `NoMemory` is the only other
 /// fault.
 pub fn read_edit(alloc: Global, line: &[u8]) -> Result<Edit, EditFault>
-    ensures edit { IfOk result (ReadsAs (words line.now)) }
+    ensures edit { IfOk result (ReadsAsEdit (words line.now)) }
     ensures fault { IfErr result (IsLineFault line.now) }
 {
     let words = words_of(alloc, line)?;

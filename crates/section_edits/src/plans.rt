@@ -5,8 +5,8 @@ ghost use Rattle.std.specs.List.{list_any};
 ghost use Rattle.section_pairs.specs.Pairs.{pair_parts};
 ghost use Rattle.surface_core.specs.Surfaces.{strips_in};
 ghost use Rattle.pair_pool.specs.Solvers.{SolvesEach, raised_by};
-ghost use Rattle.section_edits.specs.Fresh.{same_points, same_rule, is_same, fresh};
-ghost use Rattle.section_edits.specs.Plans.{IsPlan, IsAmong, IsSameAt, solution_from};
+ghost use Rattle.section_edits.specs.Fresh.{same_points, same_rule, is_same_strip, fresh};
+ghost use Rattle.section_edits.specs.Plans.{IsPlan, IsAmong, IsSameStripAt, solution_from};
 
 use fku_types::limits::MAX_PAIRS;
 use fku_types::{CostRule, NoMemory, Point};
@@ -44,7 +44,7 @@ fn same_rule(one: CostRule, other: CostRule) -> bool
 
 // Whether both have the same points and the same cost rule; ids do not count.
 fn is_same(one: &Pair, other: &Pair) -> bool
-    ensures { result ≡ is_same one.now other.now }
+    ensures { result ≡ is_same_strip one.now other.now }
 {
     same_rule(one.cost(), other.cost())
         && same_points(&one.low().points, &other.low().points)
@@ -54,8 +54,8 @@ fn is_same(one: &Pair, other: &Pair) -> bool
 // The place of a kept pair that is the same: the hinted place, or else the first. If the earlier pairs were looked up
 // in order, the hint is right except near a change.
 fn find_same(pair: &Pair, kept: &[GapPair], hint: usize) -> Option<usize>
-    ensures found { IfSome result (IsSameAt pair.now (strips_in (map pair_parts kept.now))) }
-    ensures none { IfNone result (list_any (is_same pair.now) (strips_in (map pair_parts kept.now)) ≡ false) }
+    ensures found { IfSome result (IsSameStripAt pair.now (strips_in (map pair_parts kept.now))) }
+    ensures none { IfNone result (list_any (is_same_strip pair.now) (strips_in (map pair_parts kept.now)) ≡ false) }
 {
     if hint < kept.len() && is_same(pair, &kept[hint].pair) {
         return Some(hint);

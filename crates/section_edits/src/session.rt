@@ -75,7 +75,7 @@ impl Session {
     ghost use Rattle.section_edits.specs.Changes.{changed};
     ghost use Rattle.section_edits.specs.Refusals.{IsEditMemory};
     ghost use Rattle.section_edits.specs.Edits.{IsEdited, IsApplyFault};
-    ghost use Rattle.section_edits.specs.Sessions.{IsSolved, FaultCount, Counts};
+    ghost use Rattle.section_edits.specs.Sessions.{IsSolved, FaultCount, CountsNew};
 
     /// A session of these sections. The fault is the first one that `pairs` finds, or `NoMemory`; the sections are
     /// dropped then. `Ok` raises the solver's count by the number of pairs, up to the counter's last value; `NoMemory`
@@ -115,7 +115,7 @@ impl Session {
     ) -> Result<(Session, Done), EditFault>
         ensures edited { IfOk result (λ n. IsEdited self.now.sections edit.now n.0.sections) }
         ensures solved { IfOk result (λ n. IsSolved n.0) }
-        ensures counts { IfOk result (λ n. Counts self.now.pairs n.0.pairs n.1) }
+        ensures counts { IfOk result (λ n. CountsNew self.now.pairs n.0.pairs n.1) }
         ensures counted { IfOk result (λ n.
             P.solved_pairs solver.new ≡ raised_by n.1.solved (P.solved_pairs solver.old)) }
         ensures not_less { P.solved_pairs solver.old ≤ P.solved_pairs solver.new }
@@ -164,7 +164,7 @@ impl Session {
         ensures solved { OnOk result (IsSolved self.new) }
         // The pairs before are those of the sections before, each with its solution.
         ensures before { IsSolved self.old }
-        ensures counts { IfOk result (Counts self.old.pairs self.new.pairs) }
+        ensures counts { IfOk result (CountsNew self.old.pairs self.new.pairs) }
         ensures counted { IfOk result (λ d.
             P.solved_pairs solver.new ≡ raised_by d.solved (P.solved_pairs solver.old)) }
         ensures not_less { P.solved_pairs solver.old ≤ P.solved_pairs solver.new }

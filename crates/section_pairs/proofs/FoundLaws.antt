@@ -12,7 +12,7 @@ use Rattle.correspondence.specs.Apart.{ContoursTouch}
 use Rattle.correspondence.specs.Components.{Members}
 use Rattle.correspondence.specs.Links.{IsFirstBad}
 use Rattle.section_pairs.specs.Pairs.{PairParts, AreGaps, IsShort, sides_from}
-use Rattle.section_pairs.specs.SectionFaults.{IsFirstFault, contours_of, outlines_in, IsSimpleContour, HasSelfCrossing, IsApartSection, HasCrossing, AreSound, IsContourFault, HasLongSide, IsSideFault, IsFound, ArePairs}
+use Rattle.section_pairs.specs.SectionFaults.{IsFirstFault, data_contours, outlines_in, IsSimpleContour, HasSelfCrossing, IsApartSection, HasCrossing, AreSound, IsContourFault, HasLongSide, IsSideFault, IsFound, ArePairs}
 use Rattle.section_pairs.proofs.FirstLaws.{pair_not_none, pair_one, Excludes, HasOne, first_not_all, first_one}
 use Rattle.section_pairs.proofs.PairLaws.{one_gaps}
 use Rattle.correspondence.proofs.LinkLaws.{good_or_bad, one_bad}
@@ -59,13 +59,13 @@ one_long_side side _ _ p q = absurd p
 
 -- sound contours and sections have no fault
 contours_not_sound : (sections : List SectionData) (f : Fault) → AreSound sections → IsContourFault sections f → ⊥
-contours_not_sound sections f s (inl h) = first_not_all IsSimpleContour HasSelfCrossing simple_excludes (contours_of sections) f s.simple h
+contours_not_sound sections f s (inl h) = first_not_all IsSimpleContour HasSelfCrossing simple_excludes (data_contours sections) f s.simple h
 contours_not_sound sections f s (inr h) = first_not_all IsApartSection HasCrossing apart_excludes sections f s.apart h.first
 
 one_contour_fault : (sections : List SectionData) (f g : Fault) → IsContourFault sections f → IsContourFault sections g → f ≡ g
-one_contour_fault sections f g (inl h) (inl k) = first_one IsSimpleContour HasSelfCrossing simple_excludes one_self_crossing (contours_of sections) f g h k
-one_contour_fault sections f g (inl h) (inr k) = absurd (first_not_all IsSimpleContour HasSelfCrossing simple_excludes (contours_of sections) f k.simple h)
-one_contour_fault sections f g (inr h) (inl k) = absurd (first_not_all IsSimpleContour HasSelfCrossing simple_excludes (contours_of sections) g h.simple k)
+one_contour_fault sections f g (inl h) (inl k) = first_one IsSimpleContour HasSelfCrossing simple_excludes one_self_crossing (data_contours sections) f g h k
+one_contour_fault sections f g (inl h) (inr k) = absurd (first_not_all IsSimpleContour HasSelfCrossing simple_excludes (data_contours sections) f k.simple h)
+one_contour_fault sections f g (inr h) (inl k) = absurd (first_not_all IsSimpleContour HasSelfCrossing simple_excludes (data_contours sections) g h.simple k)
 one_contour_fault sections f g (inr h) (inr k) = first_one IsApartSection HasCrossing apart_excludes one_crossing sections f g h.first k.first
 
 -- short composites have no fault

@@ -11,10 +11,10 @@ use Rattle.std.proofs.lemmas.Simd.{map-map}
 use Rattle.section_core.specs.Costs.{cost_rule}
 use Rattle.section_core.specs.Parts.{CostParts, ContourParts, Parts, SectionParts, LinkParts}
 use Rattle.section_core.specs.Flat.{ContourData, SectionData, section_data}
-use Rattle.section_core.specs.ValidSections.{section_of, contour_at}
+use Rattle.section_core.specs.ValidSections.{section_of, contour_at_height}
 use Rattle.section_core.specs.declared.parts.Section.{Section}
 use Rattle.correspondence.specs.Nesting.{oriented}
-use Rattle.correspondence.specs.Outlines.{Layer, layer, layer_at, point_at, section_at}
+use Rattle.correspondence.specs.Outlines.{Layer, layer, layer_at, spot_point, section_at}
 use Rattle.correspondence.specs.Correspondences.{Agree, Correspond}
 use Rattle.correspondence.specs.Components.{Members, AreComponents}
 use Rattle.correspondence.specs.Gaps.{AreGapMembers}
@@ -35,7 +35,7 @@ abbrev layer_of : SectionData → Layer
 layer_of s = record { names = names_in s; outlines = outlines_in s }
 
 layer_is : (s : SectionParts) → layer_of (section_of s) ≡ layer s
-layer_is s = ap₂ (λ (names : List (List ℕ)) (outlines : List (List Point)). let l : Layer = record { names = names; outlines = outlines } in l) (map-map (λ (c : ContourData). c.0) (contour_at s.z) s.contours) (map-map (λ (c : ContourData). c.1) (contour_at s.z) s.contours)
+layer_is s = ap₂ (λ (names : List (List ℕ)) (outlines : List (List Point)). let l : Layer = record { names = names; outlines = outlines } in l) (map-map (λ (c : ContourData). c.0) (contour_at_height s.z) s.contours) (map-map (λ (c : ContourData). c.1) (contour_at_height s.z) s.contours)
 
 layer_held : (S : Parts) (ss : List Section) (k : ℕ) → map section_data ss ≡ map section_of S.sections → k < length (map section_data ss) → layer_of (get_or (map section_data ss) k (section_of blank)) ≡ layer_at S k
 layer_held S ss k e l =
@@ -60,23 +60,23 @@ gap_same S T ss ts g e f cost rule links low high = record {
 }
 
 -- sections with equal heights and contours are equal
-same_contours : (z : ℤ) (cs ds : List ContourParts) → map (λ (c : ContourParts). c.name) cs ≡ map (λ (c : ContourParts). c.name) ds → map (λ (c : ContourParts). map (point_at z) c.points) cs ≡ map (λ (c : ContourParts). map (point_at z) c.points) ds → map (contour_at z) cs ≡ map (contour_at z) ds
+same_contours : (z : ℤ) (cs ds : List ContourParts) → map (λ (c : ContourParts). c.name) cs ≡ map (λ (c : ContourParts). c.name) ds → map (λ (c : ContourParts). map (spot_point z) c.points) cs ≡ map (λ (c : ContourParts). map (spot_point z) c.points) ds → map (contour_at_height z) cs ≡ map (contour_at_height z) ds
 same_contours z [] [] e f = refl
 same_contours z [] (d ∷ ds) e f = absurd (cc)
 same_contours z (c ∷ cs) [] e f = absurd (cc)
 same_contours z (c ∷ cs) (d ∷ ds) e f =
     let name : c.name ≡ d.name = cc in
     let names : map (λ (c : ContourParts). c.name) cs ≡ map (λ (c : ContourParts). c.name) ds = cc in
-    let points : map (point_at z) c.points ≡ map (point_at z) d.points = cc in
-    let outlines : map (λ (c : ContourParts). map (point_at z) c.points) cs ≡ map (λ (c : ContourParts). map (point_at z) c.points) ds = cc in
+    let points : map (spot_point z) c.points ≡ map (spot_point z) d.points = cc in
+    let outlines : map (λ (c : ContourParts). map (spot_point z) c.points) cs ≡ map (λ (c : ContourParts). map (spot_point z) c.points) ds = cc in
     ap₂ (λ (k : ContourData) (ks : List ContourData). k ∷ ks) (ap₂ (λ (n : List ℕ) (ps : List Point). (n, ps)) name points) (same_contours z cs ds names outlines)
 
 same_section : (s t : SectionParts) → s.z ≡ t.z → layer s ≡ layer t → section_of s ≡ section_of t
 same_section s t e f =
-    let at : ℤ → Type 0 = λ z. map (λ (c : ContourParts). map (point_at s.z) c.points) s.contours ≡ map (λ (c : ContourParts). map (point_at z) c.points) t.contours in
+    let at : ℤ → Type 0 = λ z. map (λ (c : ContourParts). map (spot_point s.z) c.points) s.contours ≡ map (λ (c : ContourParts). map (spot_point z) c.points) t.contours in
     let outlines = subst at (sym e) (ap (λ (l : Layer). l.outlines) f) in
     ap₂ (λ (z : ℤ) (ks : List ContourData). (z, ks)) e
-    (same_contours s.z s.contours t.contours (ap (λ (l : Layer). l.names) f) outlines ∙ ap (λ (z : ℤ). map (contour_at z) t.contours) e)
+    (same_contours s.z s.contours t.contours (ap (λ (l : Layer). l.names) f) outlines ∙ ap (λ (z : ℤ). map (contour_at_height z) t.contours) e)
 
 pub data_same : (S T : Parts) (ss ts : List Section) (k : ℕ) → map section_data ss ≡ map section_of S.sections → map section_data ts ≡ map section_of T.sections → k < length S.sections → k < length T.sections → (section_at S k).z ≡ (section_at T k).z → layer_at S k ≡ layer_at T k → IsSameAt (map section_data ss) (map section_data ts) k
 data_same S T ss ts k e f l m z h =

@@ -10,8 +10,8 @@ use Rattle.fku_types.specs.declared.limits.TheConstants.{MAX_PAIRS}
 use Rattle.section_core.specs.declared.parts.Section.{Section}
 use Rattle.section_core.specs.Parts.{Parts, SectionParts}
 use Rattle.section_core.specs.Flat.{SectionData, section_data, contour_data}
-use Rattle.section_core.specs.ValidSections.{section_of, contour_at, contours_in}
-use Rattle.correspondence.specs.Outlines.{section_at, point_at}
+use Rattle.section_core.specs.ValidSections.{section_of, contour_at_height, contours_in}
+use Rattle.correspondence.specs.Outlines.{section_at, spot_point}
 use Rattle.correspondence.specs.Components.{Members, IsComponent, AreInOrder}
 use Rattle.correspondence.proofs.Held.{at_place}
 use Rattle.section_pairs.specs.declared.gap_pairs.GapPair.{GapPair}
@@ -67,7 +67,7 @@ contours_are ss xs e =
     parts_count : (ys : List SectionParts) → sum_by (λ (d : SectionData). length d.1) (map section_of ys) ≡ sum_by contour_count ys
     parts_count [] = refl
     parts_count (y ∷ ys) =
-        omega (arith, parts_count ys, length-map y.contours (contour_at y.z), sum_by-cons (λ (d : SectionData). length d.1) (section_of y) (map section_of ys), sum_by-cons contour_count y ys)
+        omega (arith, parts_count ys, length-map y.contours (contour_at_height y.z), sum_by-cons (λ (d : SectionData). length d.1) (section_of y) (map section_of ys), sum_by-cons contour_count y ys)
 
     held_count : (ys : List Section) → sum_by (λ (d : SectionData). length d.1) (map section_data ys) ≡ sum_by (λ (s : Section). length s.contours.items) ys
     held_count [] = refl
@@ -88,7 +88,7 @@ all_few ss S gs e h =
     let s = section_at S g in
     let at : g ≡ 0 + g = omega arith in
     subst (λ (k : ℕ). length (get_or gs g []) ≤ contour_count (section_at S k)) at
-    (omega (arith, components_few _ _ _ (get_or gs g []) a.components a.in_order, length-map s.contours (λ c. map (point_at s.z) c.points))) in
+    (omega (arith, components_few _ _ _ (get_or gs g []) a.components a.in_order, length-map s.contours (λ c. map (spot_point s.z) c.points))) in
     omega (arith, gaps_few S.sections 0 gs (omega (arith, h.count)) each, sum_by-take-le contour_count S.sections (0 + length gs), contours_are ss S.sections e)
 
 -- ---- pairs

@@ -12,7 +12,7 @@ use Rattle.section_core.specs.declared.parts.Contour.{Contour}
 use Rattle.section_core.specs.declared.parts.Section.{Section}
 use Rattle.section_core.specs.Parts.{SectionParts, Parts}
 use Rattle.section_core.specs.Flat.{ContourData, section_data}
-use Rattle.section_core.specs.ValidSections.{IsValidSection, AreValidSections, contours_in, vertices, section_of, contour_at}
+use Rattle.section_core.specs.ValidSections.{IsValidSection, AreValidSections, contours_in, vertices, section_of, contour_at_height}
 use Rattle.correspondence.specs.Contours.{AreOutlines, points_of, point_lists}
 use Rattle.correspondence.specs.Nesting.{depth, first_id, is_turned, turned, ring_from, ring_at, oriented}
 use Rattle.correspondence.proofs.Nested.{length-turned}
@@ -43,7 +43,7 @@ outlines_same ss xs e =
   where
     outlines_map : (ys : List SectionParts) → map outlines_in (map section_of ys) ≡ map outlines_of ys
     outlines_map [] = refl
-    outlines_map (y ∷ ys) = ap₂ (λ (a : List (List Point)) (b : List (List (List Point))). a ∷ b) (map-map (λ (c : ContourData). c.1) (contour_at y.z) y.contours) (outlines_map ys)
+    outlines_map (y ∷ ys) = ap₂ (λ (a : List (List Point)) (b : List (List (List Point))). a ∷ b) (map-map (λ (c : ContourData). c.1) (contour_at_height y.z) y.contours) (outlines_map ys)
 
     held_map : (ys : List Section) → map outlines_in (map section_data ys) ≡ map point_lists ys
     held_map [] = refl

@@ -7,7 +7,7 @@ use Rattle.fku_types.specs.declared.points.Point.{Point}
 use Rattle.plane_geom.specs.Rings.{RingView}
 use Rattle.correspondence.specs.Contours.{contour_at}
 use Rattle.correspondence.specs.Nesting.{depth, first_id, is_turned, turned, ring_from, ring_at, oriented}
-use Rattle.ring_polygons.specs.Composites.{view_at, first_least, nearest_vertex, ring_square, nearest_ring, bridge_square, bridge_place, Bridge, least_bridge, join, bridged, join_others, composite, point_at}
+use Rattle.ring_polygons.specs.Composites.{view_at, first_least, nearest_vertex, ring_square, nearest_ring, bridge_square, bridge_place, Bridge, least_bridge, join, bridged, join_others, composite, ring_point_at}
 use Rattle.section_pairs.specs.Rings.{pick, composite_at}
 
 -- a ring with larger ids
@@ -77,18 +77,18 @@ nearest_raised n p rings =
 
 square_raised : (n : ℕ) (ring : RingView) (others : List RingView) (p : ℕ) → bridge_square (raised n ring) (map (raised n) others) p ≡ bridge_square ring others p
 square_raised n ring others p =
-    let q = point_at ring p in
+    let q = ring_point_at ring p in
     ap (λ (c : ℕ). ring_square q (view_at (map (raised n) others) c)) (nearest_raised n q others) ∙ ap (ring_square q) (view_raised n others (nearest_ring q others))
 
 bridge_raised : (n : ℕ) (ring : RingView) (others : List RingView) → least_bridge (raised n ring) (map (raised n) others) ≡ least_bridge ring others
 unfolding least_bridge
 bridge_raised n ring others =
-    let at : ℕ → List RingView → ℕ → Bridge = λ p rings c. record { place = p; other = c; vertex = nearest_vertex (point_at ring p) (view_at rings c) } in
+    let at : ℕ → List RingView → ℕ → Bridge = λ p rings c. record { place = p; other = c; vertex = nearest_vertex (ring_point_at ring p) (view_at rings c) } in
     let q = bridge_place ring others in
-    let c = nearest_ring (point_at ring q) others in
-    ap (λ (p : ℕ). at p (map (raised n) others) (nearest_ring (point_at ring p) (map (raised n) others))) (least_same (bridge_square (raised n ring) (map (raised n) others)) (bridge_square ring others) (square_raised n ring others) (length ring.points))
-    ∙ ap (at q (map (raised n) others)) (nearest_raised n (point_at ring q) others)
-    ∙ ap (λ (r : RingView). let b : Bridge = record { place = q; other = c; vertex = nearest_vertex (point_at ring q) r } in b) (view_raised n others c)
+    let c = nearest_ring (ring_point_at ring q) others in
+    ap (λ (p : ℕ). at p (map (raised n) others) (nearest_ring (ring_point_at ring p) (map (raised n) others))) (least_same (bridge_square (raised n ring) (map (raised n) others)) (bridge_square ring others) (square_raised n ring others) (length ring.points))
+    ∙ ap (at q (map (raised n) others)) (nearest_raised n (ring_point_at ring q) others)
+    ∙ ap (λ (r : RingView). let b : Bridge = record { place = q; other = c; vertex = nearest_vertex (ring_point_at ring q) r } in b) (view_raised n others c)
 
 -- ---- composites
 join-map : {X Y : Type 0} (f : X → Y) (xs ys : List X) (p v : ℕ) → join (map f xs) (map f ys) p v ≡ map f (join xs ys p v)

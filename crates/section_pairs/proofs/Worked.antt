@@ -14,7 +14,7 @@ use Rattle.ring_polygons.specs.Composites.{least_bridge}
 use Rattle.correspondence.specs.Components.{Members}
 use Rattle.section_pairs.specs.Rings.{vertices_in, first_vertex, rings_at, pick}
 use Rattle.section_pairs.specs.Pairs.{PairParts, pairs_from, sides_from, IsShort}
-use Rattle.section_pairs.specs.SectionFaults.{IsFirstFault, contours_of, names_in, HasLongSide}
+use Rattle.section_pairs.specs.SectionFaults.{IsFirstFault, data_contours, names_in, HasLongSide}
 
 abbrev pub box : ℕ → ℕ → List Spot
 box left right = (pos left, pos 0) ∷ (pos right, pos 0) ∷ (pos right, pos 10) ∷ (pos left, pos 10) ∷ []
@@ -88,7 +88,7 @@ picked = refl
 names : map (λ s. names_in (section_of s)) branching.sections ≡ ((97 ∷ []) ∷ []) ∷ ((98 ∷ []) ∷ (99 ∷ []) ∷ []) ∷ []
 names = refl
 
-all_contours : length (contours_of (map section_of branching.sections)) ≡ 3
+all_contours : length (data_contours (map section_of branching.sections)) ≡ 3
 all_contours = refl
 
 -- the first item with a fault is reported, and no later one

@@ -10,7 +10,7 @@ use Rattle.correspondence.specs.Gaps.{AreGapMembers}
 use Rattle.section_pairs.specs.declared.gap_pairs.GapPair.{GapPair}
 use Rattle.section_pairs.specs.declared.findings.Findings.{Findings}
 use Rattle.section_pairs.specs.Pairs.{PairParts, pair_parts, pairs_from, sides_from, IsShort}
-use Rattle.section_pairs.specs.SectionFaults.{IsFirstFault, HasLongSide, OrNoMemory, IsSimpleContour, HasSelfCrossing, IsApartSection, HasCrossing, contours_of}
+use Rattle.section_pairs.specs.SectionFaults.{IsFirstFault, HasLongSide, OrNoMemory, IsSimpleContour, HasSelfCrossing, IsApartSection, HasCrossing, data_contours}
 
 -- the components of the gaps b to e - 1
 pub record AreGapsIn (S : Parts) (b e : ℕ) (gaps : List (List Members)) : Type 0 where
@@ -40,7 +40,7 @@ IsGapResult S b e r = MatchResult r (λ v. AreHeldIn S b e v.items) (OrNoMemory 
 
 -- the results of the tests of sections xs, and of the pairs of the gaps b to e - 1
 pub record AreFindings (S : Parts) (xs : List SectionData) (b e : ℕ) (f : Findings) : Type 0 where
-  pub simple : MatchResult f.simple (λ _. All IsSimpleContour (contours_of xs))
-      (IsFirstFault IsSimpleContour HasSelfCrossing (contours_of xs))
+  pub simple : MatchResult f.simple (λ _. All IsSimpleContour (data_contours xs))
+      (IsFirstFault IsSimpleContour HasSelfCrossing (data_contours xs))
   pub apart : MatchResult f.apart (λ _. All IsApartSection xs) (IsFirstFault IsApartSection HasCrossing xs)
   pub pairs : IsGapResult S b e f.pairs

@@ -26,8 +26,8 @@ pub record IsFirstFault {X : Type 0} (Good : X → Type 0) (Has : X → Fault �
   pub has : Has item fault
 
 -- the contours of sections, in file order
-abbrev pub contours_of : List SectionData → List ContourData
-contours_of sections = flat_map (λ (s : SectionData). s.1) sections
+abbrev pub data_contours : List SectionData → List ContourData
+data_contours sections = flat_map (λ (s : SectionData). s.1) sections
 
 -- it is `NoMemory`, or one of these faults
 abbrev pub OrNoMemory : (Fault → Type 0) → Fault → Type 0
@@ -54,17 +54,17 @@ HasCrossing s fault = IsCrossing (names_in s) (outlines_in s) fault
 
 -- every contour is simple, and no two contours of a section share a point
 pub record AreSound (sections : List SectionData) : Type 0 where
-  pub simple : All IsSimpleContour (contours_of sections)
+  pub simple : All IsSimpleContour (data_contours sections)
   pub apart : All IsApartSection sections
 
 -- the first contour that is not simple; or, if all are, the first section whose contours are not apart
 pub record IsLaterFault (sections : List SectionData) (fault : Fault) : Type 0 where
-  pub simple : All IsSimpleContour (contours_of sections)
+  pub simple : All IsSimpleContour (data_contours sections)
   pub first : IsFirstFault IsApartSection HasCrossing sections fault
 
 abbrev pub IsContourFault : List SectionData → Fault → Type 0
 IsContourFault sections fault =
-    IsFirstFault IsSimpleContour HasSelfCrossing (contours_of sections) fault ⊎ IsLaterFault sections fault
+    IsFirstFault IsSimpleContour HasSelfCrossing (data_contours sections) fault ⊎ IsLaterFault sections fault
 
 -- the fault has the section and the size of a composite that is too long
 abbrev pub HasLongSide : ℕ × ℕ → Fault → Type 0

@@ -3,7 +3,7 @@ ghost use Rattle.std.specs.Prelude.{All, map, MatchResult};
 ghost use Rattle.section_core.specs.Flat.{contour_data, section_data};
 ghost use Rattle.section_core.specs.ValidSections.{section_of};
 ghost use Rattle.correspondence.specs.Contours.{AreOutlines};
-ghost use Rattle.section_pairs.specs.SectionFaults.{IsFirstFault, IsSimpleContour, HasSelfCrossing, IsApartSection, HasCrossing, AreSound, IsContourFault, contours_of};
+ghost use Rattle.section_pairs.specs.SectionFaults.{IsFirstFault, IsSimpleContour, HasSelfCrossing, IsApartSection, HasCrossing, AreSound, IsContourFault, data_contours};
 
 use crate::unchanged::is_same_at;
 use correspondence::{test_apart, test_simple};
@@ -26,9 +26,9 @@ fn test_contours(contours: &[Contour]) -> Result<(), Fault>
 /// at the same place, whose contours are known to be simple.
 pub fn test_all_simple(known: &[Section], sections: &[Section]) -> Result<(), Fault>
     requires outlines { All (λ s. AreOutlines s.contours.items) sections.now }
-    requires known { All IsSimpleContour (contours_of (map section_data known.now)) }
-    ensures { MatchResult result (λ _. All IsSimpleContour (contours_of (map section_data sections.now)))
-        (IsFirstFault IsSimpleContour HasSelfCrossing (contours_of (map section_data sections.now))) }
+    requires known { All IsSimpleContour (data_contours (map section_data known.now)) }
+    ensures { MatchResult result (λ _. All IsSimpleContour (data_contours (map section_data sections.now)))
+        (IsFirstFault IsSimpleContour HasSelfCrossing (data_contours (map section_data sections.now))) }
 {
     for place in 0..sections.len() {
         if !is_same_at(known, sections, place) {

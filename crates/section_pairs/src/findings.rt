@@ -4,7 +4,7 @@ ghost use Rattle.section_core.specs.Flat.{SectionData, section_data};
 ghost use Rattle.section_core.specs.Parts.{Parts};
 ghost use Rattle.section_core.specs.ValidSections.{section_of};
 ghost use Rattle.correspondence.specs.Contours.{AreOutlines};
-ghost use Rattle.correspondence.specs.Named.{IsTableOf};
+ghost use Rattle.correspondence.specs.Named.{IsLinkTableOf};
 ghost use Rattle.strip_graph.specs.Strips.{IsStrip};
 ghost use Rattle.section_pairs.specs.Pairs.{pair_parts};
 ghost use Rattle.section_pairs.specs.Ranges.{AreFindings};
@@ -39,7 +39,7 @@ pub fn find_part(
     begin: usize,
     end: usize,
 ) -> Findings
-    requires table { IsTableOf table.now sections.now.links }
+    requires table { IsLinkTableOf table.now sections.now.links }
     requires outlines { All (λ s. AreOutlines s.contours.items) part.now }
     requires order { begin ≤ end }
     requires there { end < length sections.now.sections }

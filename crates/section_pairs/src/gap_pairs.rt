@@ -6,7 +6,7 @@ ghost use Rattle.fku_types.specs.Rules.{IsWeighted};
 ghost use Rattle.plane_geom.specs.RingViews.{ring_views};
 ghost use Rattle.strip_graph.specs.Strips.{IsStrip};
 ghost use Rattle.correspondence.specs.Gaps.{members_of, AreGapComponents};
-ghost use Rattle.correspondence.specs.Named.{IsTableOf};
+ghost use Rattle.correspondence.specs.Named.{IsLinkTableOf};
 ghost use Rattle.section_core.specs.ValidSections.{section_of};
 ghost use Rattle.section_pairs.specs.Rings.{first_vertex, rings_at, AreSectionRings, ArePicked};
 ghost use Rattle.section_pairs.specs.Pairs.{pair_parts, pair_between, pair_of, sides_between, sides_of, IsShort};
@@ -159,7 +159,7 @@ fn composed_gap(
     low: &[Ring],
     high: &[Ring],
 ) -> Result<Vec<GapPair>, Fault>
-    requires table { IsTableOf table.now sections.now.links }
+    requires table { IsLinkTableOf table.now sections.now.links }
     requires there { gap + 1 < length sections.now.sections }
     requires low { ring_views low.now ≡ rings_at sections.now gap }
     requires low_limits { AreSectionRings low.now }
@@ -183,7 +183,7 @@ pub fn pairs_in(
     end: usize,
     first_id: u32,
 ) -> Result<Vec<GapPair>, Fault>
-    requires table { IsTableOf table.now sections.now.links }
+    requires table { IsLinkTableOf table.now sections.now.links }
     requires order { begin ≤ end }
     requires there { end < length sections.now.sections }
     requires first { first_id ≡ first_vertex sections.now begin }

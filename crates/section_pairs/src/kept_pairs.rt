@@ -1,7 +1,7 @@
 //! The pairs of sections, if those of other sections are known.
 ghost use Rattle.std.specs.Prelude.{◌≡◌, ◌+◌, ◌-◌, ◌<◌, ◌≤◌, ℕ, true, false, All, IfOk, IfErr, length, map, slice_index_or};
 ghost use Rattle.strip_graph.specs.Strips.{IsStrip};
-ghost use Rattle.correspondence.specs.Named.{IsTableOf};
+ghost use Rattle.correspondence.specs.Named.{IsLinkTableOf};
 ghost use Rattle.section_pairs.specs.declared.gap_pairs.GapPair.{GapPair as HeldPair};
 ghost use Rattle.section_pairs.specs.Rings.{first_vertex};
 ghost use Rattle.section_pairs.specs.Pairs.{pair_parts};
@@ -49,7 +49,7 @@ fn gap_pairs(
     low: Shift,
     high: Shift,
 ) -> Result<Vec<GapPair>, Fault>
-    requires table { IsTableOf table.now sections.now.links }
+    requires table { IsLinkTableOf table.now sections.now.links }
     requires same { same ≡ true → IsSameGap old.now sections.now gap }
     requires there { gap + 1 < length sections.now.sections }
     requires known { gap + 1 < length old.now.sections → AreGapPairs old.now gap (map pair_parts known.now) }

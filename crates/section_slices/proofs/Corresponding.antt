@@ -3,14 +3,14 @@ use Rattle.std.proofs.Common.{◌≡◌, ◌↔◌, ℕ, ◌+◌, ◌<◌, Bool,
 use Rattle.std.proofs.lemmas.List.{length-map}
 use Rattle.fku_types.specs.declared.rules.PairRule.{PairRule}
 use Rattle.section_core.specs.Parts.{ContourParts, SectionParts, LinkParts, Parts}
-use Rattle.correspondence.specs.Outlines.{Layer, layer, layer_at, section_at, point_at}
+use Rattle.correspondence.specs.Outlines.{Layer, layer, layer_at, section_at, spot_point}
 use Rattle.correspondence.specs.Correspondences.{Agree, Correspond}
 use Rattle.correspondence.specs.Graphs.{AreRows, cell}
 use Rattle.section_slices.specs.Densified.{MarksCorresponding}
 
 -- a section has as many outlines as names
 as_many : (s : SectionParts) → length (layer s).outlines ≡ length (layer s).names
-as_many s = length-map s.contours (λ (c : ContourParts). map (point_at s.z) c.points) ∙ sym (length-map s.contours (λ (c : ContourParts). c.name))
+as_many s = length-map s.contours (λ (c : ContourParts). map (spot_point s.z) c.points) ∙ sym (length-map s.contours (λ (c : ContourParts). c.name))
 
 -- what agrees corresponds
 pub corresponding : (S : Parts) (g i j : ℕ) → i < length (layer_at S g).names → j < length (layer_at S (g + 1)).names → Agree S.rule S.links (layer_at S g) (layer_at S (g + 1)) i j ↔ Correspond S g i j

@@ -18,7 +18,7 @@ use Rattle.section_pairs.proofs.FoundLaws.{paired_or_found}
 use Rattle.section_slices.specs.declared.sections.DensifyFault.{DensifyFault}
 use Rattle.section_slices.specs.declared.sections.DensifyFault.TheVariants.{Found, Mid, NoMemory}
 use Rattle.section_slices.specs.Densified.{IsDensified, dense_pairs, is_at_height_of}
-use Rattle.section_slices.specs.Faults.{IsMiddleFault, in_parts, in_sections, IsDensifyFault, IsMid, IsSectionsFault, IsToldFault, IsMadeFault, of_parts, of_sections, IsRemakeFault}
+use Rattle.section_slices.specs.Faults.{IsMiddleFault, in_parts, in_sections, IsDensifyFault, IsMid, IsFaultOfPairs, IsToldFault, IsMadeFault, of_parts, of_sections, IsRemakeFault}
 use Rattle.section_slices.proofs.Told.{not_memory}
 
 pub same_count : (S : Parts) (ps qs : List PairParts) → ArePairs S ps → ArePairs S qs → length (dense_pairs S ps) ≡ length (dense_pairs S qs)
@@ -65,15 +65,15 @@ pub counted_mid : (S : Parts) (found : List PairParts) (n old new : ℕ) (r : Re
 counted_mid S found n old new (Ok T) h e k = tt
 counted_mid S found n old new (Err f) h e k = λ mid ps p. k ∙ ap (λ (m : ℕ). raised_by m old) (e ∙ same_count S found ps h p)
 
-never_mid : (S : Parts) (fault : DensifyFault) → IsSectionsFault S fault → IsMid fault → ⊥
+never_mid : (S : Parts) (fault : DensifyFault) → IsFaultOfPairs S fault → IsMid fault → ⊥
 never_mid S NoMemory h mid = mid
 never_mid S (Found fault) h mid = mid
 never_mid S (Mid fault) h mid = h
 
 -- a fault of the given sections is none of those to be made
-pub no_mid : (S : Parts) (given : DensifyFault) (r : Result Parts DensifyFault) (X : Type 0) → IsErrAnd r (λ e. e ≡ given) → IsSectionsFault S given → IfErr r (λ fault. IsMid fault → X)
+pub no_mid : (S : Parts) (given : DensifyFault) (r : Result Parts DensifyFault) (X : Type 0) → IsErrAnd r (λ e. e ≡ given) → IsFaultOfPairs S given → IfErr r (λ fault. IsMid fault → X)
 no_mid S given (Ok T) X exit h = tt
-no_mid S given (Err f) X exit h = λ mid. absurd (never_mid S f (subst (IsSectionsFault S) (sym exit) h) mid)
+no_mid S given (Err f) X exit h = λ mid. absurd (never_mid S f (subst (IsFaultOfPairs S) (sym exit) h) mid)
 
 pub counted_is : (S : Parts) (found : List PairParts) (n old new : ℕ) (r : Result Parts DensifyFault) → ArePairs S found → n ≡ length (dense_pairs S found) → new ≡ raised_by n old → IfOk r (λ _. (ps : List PairParts) → ArePairs S ps → new ≡ raised_by (length (dense_pairs S ps)) old)
 counted_is S found n old new (Ok T) h e k = λ ps p. k ∙ ap (λ (m : ℕ). raised_by m old) (e ∙ same_count S found ps h p)

@@ -22,7 +22,7 @@ use Rattle.section_pairs.proofs.FoundLaws.{paired_or_found, one_found}
 use Rattle.section_slices.specs.declared.sections.DensifyFault.{DensifyFault}
 use Rattle.section_slices.specs.declared.sections.DensifyFault.TheVariants.{Found, Mid, NoMemory}
 use Rattle.section_slices.specs.Densified.{IsDensified}
-use Rattle.section_slices.specs.Faults.{HaveMakeFault, IsMiddleFault, in_parts, in_sections, IsDensifyFault, IsDensifyMemory, Tells, IsSectionsFault}
+use Rattle.section_slices.specs.Faults.{HaveMakeFault, IsMiddleFault, in_parts, in_sections, IsDensifyFault, IsDensifyMemory, TellsDensifyFault, IsFaultOfPairs}
 use Rattle.section_slices.proofs.OneDensified.{one_densified}
 
 -- the pieces of parts, for equal parts
@@ -83,7 +83,7 @@ with_pairs : (S : Parts) (f g : Fault) → IsMiddleFault S f → IsFound S g →
 with_pairs S f g (in_parts T f' d h m) k = paired_or_found S d.pairs g d.are_pairs k
 with_pairs S f g (in_sections T f' d a h) k = paired_or_found S d.pairs g d.are_pairs k
 
-pub exact : (S : Parts) (fault : DensifyFault) (r : Result Parts DensifyFault) → IfOk r (IsDensified S) → IfOk r IsAccepted → IfOk r (λ T. (ps : List PairParts) × ArePairs T ps) → IfErr r (IsDensifyFault S) → IsDensifyFault S fault → Tells fault r
+pub exact : (S : Parts) (fault : DensifyFault) (r : Result Parts DensifyFault) → IfOk r (IsDensified S) → IfOk r IsAccepted → IfOk r (λ T. (ps : List PairParts) × ArePairs T ps) → IfErr r (IsDensifyFault S) → IsDensifyFault S fault → TellsDensifyFault fault r
 exact S NoMemory r d a p e h = tt
 exact S (Found f) (Ok T) d a p e h = paired_or_found S d.pairs f d.are_pairs h
 exact S (Found f) (Err NoMemory) d a p e h = tt
@@ -94,13 +94,13 @@ exact S (Mid f) (Err NoMemory) d a p e h = tt
 exact S (Mid f) (Err (Found g)) d a p e h = absurd (with_pairs S f g h e)
 exact S (Mid f) (Err (Mid g)) d a p e h = ap (λ (x : Fault). Mid x) (one_middle_fault S g f e h)
 
-of_given : (S : Parts) (fault : DensifyFault) → IsSectionsFault S fault → IsDensifyFault S fault
+of_given : (S : Parts) (fault : DensifyFault) → IsFaultOfPairs S fault → IsDensifyFault S fault
 of_given S NoMemory h = tt
 of_given S (Found fault) h = h
 of_given S (Mid fault) h = absurd h
 
 -- the fault of the given sections
-pub early : (S : Parts) (fault given : DensifyFault) (r : Result Parts DensifyFault) → IsErrAnd r (λ e. e ≡ given) → IsSectionsFault S given → IsDensifyFault S fault → Tells fault r
+pub early : (S : Parts) (fault given : DensifyFault) (r : Result Parts DensifyFault) → IsErrAnd r (λ e. e ≡ given) → IsFaultOfPairs S given → IsDensifyFault S fault → TellsDensifyFault fault r
 early S fault given (Ok T) e k h = absurd e
 early S fault given (Err told) e k h = exact S fault (Err told) tt tt tt (subst (IsDensifyFault S) (sym e) (of_given S given k)) h
 

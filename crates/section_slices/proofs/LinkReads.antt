@@ -16,7 +16,7 @@ use Rattle.section_pairs.specs.Pairs.{pair_parts}
 use Rattle.section_pairs.specs.SectionFaults.{ArePairs}
 use Rattle.surface_core.proofs.JoinedPlaces.{IsJoint, joints, count}
 use Rattle.section_slices.specs.Densified.{row_links}
-use Rattle.section_slices.specs.Marks.{IsWithin}
+use Rattle.section_slices.specs.Marks.{IsPairBetween}
 
 abbrev name_of : Contour → List ℕ
 name_of k = k.name
@@ -38,7 +38,7 @@ counted : (S : Parts) (g : ℕ) (s : Section) → layer_at S g ≡ held_layer s 
 counted S g s e = ap (λ (x : Layer). length x.outlines) e ∙ length-map s.contours.items points_of
 
 pub within : (S : Parts) (ps : List GapPair) (g : ℕ) (low high : Section) → ArePairs S (map pair_parts ps) → layer_at S g ≡ held_layer low → layer_at S (g + 1) ≡ held_layer high
-    → (k : ℕ) (d : GapPair) → k < length ps → (get_or ps k d).gap ≡ g → IsWithin low high (pair_parts (get_or ps k d))
+    → (k : ℕ) (d : GapPair) → k < length ps → (get_or ps k d).gap ≡ g → IsPairBetween low high (pair_parts (get_or ps k d))
 within S ps g low high h el eh k d l e =
     let p : GapPair = get_or ps k d in
     let there : k < length (map pair_parts ps) = omega (arith, l, length-map ps pair_parts) in

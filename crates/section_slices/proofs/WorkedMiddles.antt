@@ -13,7 +13,7 @@ use Rattle.strip_graph.specs.declared.slices.Cut.{Cut}
 use Rattle.strip_graph.specs.declared.tilings.Step.TheVariants.{V, H}
 use Rattle.row_paths.specs.Solutions.{Solution}
 use Rattle.section_pairs.specs.Pairs.{PairParts}
-use Rattle.section_slices.specs.Roundings.{rounded, rounded_loop, opened}
+use Rattle.section_slices.specs.Roundings.{rounded, rounded_loop, opened_loop}
 use Rattle.section_slices.specs.Densified.{is_dense, middle_height, middle_name, middle_outline, contour_through, dense_links, marked_links, densified, is_at_height_of}
 
 abbrev cut : ℤ → ℤ → Cut
@@ -38,7 +38,7 @@ back_again : rounded_loop 1 (cut (pos 0) (pos 0) ∷ cut (pos 4) (pos 0) ∷ cut
 back_again = refl
 
 -- all spots that are the same as the first are removed from the end
-end_goes : opened (spot 0 0 ∷ spot 4 0 ∷ spot 0 0 ∷ spot 0 0 ∷ []) ≡ spot 0 0 ∷ spot 4 0 ∷ []
+end_goes : opened_loop (spot 0 0 ∷ spot 4 0 ∷ spot 0 0 ∷ spot 0 0 ∷ []) ≡ spot 0 0 ∷ spot 4 0 ∷ []
 end_goes = refl
 
 abbrev corner : ℕ → ℕ → ℕ → Point

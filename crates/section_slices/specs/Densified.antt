@@ -13,6 +13,7 @@ use Rattle.row_paths.specs.Solutions.{Solution, Solves}
 use Rattle.section_pairs.specs.Pairs.{PairParts}
 use Rattle.section_pairs.specs.SectionFaults.{ArePairs}
 use Rattle.section_slices.specs.Roundings.{rounded_loop}
+use Rattle.section_core.specs.Views.{spot_at}
 
 abbrev pub no_pair : PairParts
 no_pair = record {
@@ -50,8 +51,8 @@ abbrev pub dense_pairs : Parts → List PairParts → List PairParts
 dense_pairs S pairs = filter (λ (p : PairParts). is_dense S pairs p.gap) pairs
 
 -- the places of the pairs of gap g
-abbrev pub places_in : List PairParts → ℕ → List ℕ
-places_in pairs g = filter (λ k. is_in g (pair_at pairs k)) (range_with_len 0 (length pairs))
+abbrev pub pair_places_in : List PairParts → ℕ → List ℕ
+pair_places_in pairs g = filter (λ k. is_in g (pair_at pairs k)) (range_with_len 0 (length pairs))
 
 -- the height in the middle of gap g: half of its rise above the lower height, rounded down
 abbrev pub middle_height : Parts → ℕ → ℤ
@@ -81,9 +82,6 @@ pub record AreMiddleOutlines (S : Parts) (pairs : List PairParts) (outlines : Li
   pub each : (k : ℕ) → k < length pairs → is_dense S pairs (pair_at pairs k).gap ≡ true
       → IsMiddleOutline S (pair_at pairs k) (outline_at outlines k)
 
-abbrev pub spot_at : Place → Spot
-spot_at s = (s.x, s.y)
-
 -- a contour through these spots
 abbrev pub contour_through : List ℕ → List Place → ContourParts
 contour_through name outline = record { name = name; count = pos (length outline); points = map spot_at outline }
@@ -95,7 +93,7 @@ middle_contour outlines k = contour_through (middle_name k) (outline_at outlines
 -- the section in the middle of gap g: a contour for each of its pairs, in order
 abbrev pub middle_section : Parts → List PairParts → List (List Place) → ℕ → SectionParts
 middle_section S pairs outlines g =
-    record { z = middle_height S g; contours = map (middle_contour outlines) (places_in pairs g) }
+    record { z = middle_height S g; contours = map (middle_contour outlines) (pair_places_in pairs g) }
 
 -- a section, and the middle section of the gap above it if that is dense
 abbrev pub section_and_middle : Parts → List PairParts → List (List Place) → ℕ → List SectionParts
@@ -113,7 +111,7 @@ pair_links low high p k =
 
 -- the links of all pairs of a gap, in order
 abbrev pub dense_links : Layer → Layer → List PairParts → ℕ → List LinkParts
-dense_links low high pairs g = flat_map (λ k. pair_links low high (pair_at pairs k) k) (places_in pairs g)
+dense_links low high pairs g = flat_map (λ k. pair_links low high (pair_at pairs k) k) (pair_places_in pairs g)
 
 -- the links of a contour below with those above that a row marks, in order
 abbrev pub row_links : List ℕ → List (List ℕ) → (ℕ → Bool) → List LinkParts

@@ -53,17 +53,17 @@ IsMid (Mid fault) = Unit {0}
 IsMid fault = ⊥
 
 -- this fault is the result, unless memory runs out
-abbrev pub Tells : DensifyFault → Result Parts DensifyFault → Type 0
-Tells NoMemory r = Unit {0}
-Tells fault (Ok T) = ⊥
-Tells fault (Err NoMemory) = Unit {0}
-Tells fault (Err told) = told ≡ fault
+abbrev pub TellsDensifyFault : DensifyFault → Result Parts DensifyFault → Type 0
+TellsDensifyFault NoMemory r = Unit {0}
+TellsDensifyFault fault (Ok T) = ⊥
+TellsDensifyFault fault (Err NoMemory) = Unit {0}
+TellsDensifyFault fault (Err told) = told ≡ fault
 
 -- why the pairs of sections are refused
-abbrev pub IsSectionsFault : Parts → DensifyFault → Type 0
-IsSectionsFault S NoMemory = Unit {0}
-IsSectionsFault S (Found fault) = IsFound S fault
-IsSectionsFault S (Mid fault) = ⊥
+abbrev pub IsFaultOfPairs : Parts → DensifyFault → Type 0
+IsFaultOfPairs S NoMemory = Unit {0}
+IsFaultOfPairs S (Found fault) = IsFound S fault
+IsFaultOfPairs S (Mid fault) = ⊥
 
 -- a fault of the densified sections, or `NoMemory`, as it is reported
 abbrev pub middle_fault : Fault → DensifyFault

@@ -3,7 +3,6 @@ use Rattle.std.specs.Prelude.{◌≡◌, ℕ, ◌++◌, ◌<◌, Bool, List, len
 use Rattle.std.specs.Global.{Global}
 use Rattle.std.specs.List.{flat_map, range_with_len}
 use Rattle.fku_types.specs.declared.points.Spot.{Spot as Place}
-use Rattle.fku_types.specs.declared.points.Point.{Point}
 use Rattle.section_core.specs.declared.parts.Section.{Section}
 use Rattle.section_core.specs.Parts.{LinkParts, Parts}
 use Rattle.section_pairs.specs.Pairs.{PairParts}
@@ -24,15 +23,12 @@ pub record AreAllLinks (S : Parts) (pairs : List PairParts) (links : List LinkPa
   pub all : links ≡ flat_map (λ (ls : List LinkParts). ls) gaps
 
 -- m and a number
-abbrev pub numbered : ℕ → List ℕ
-numbered n = codes "m" ++ decimal n
+abbrev pub numbered_name : ℕ → List ℕ
+numbered_name n = codes "m" ++ decimal n
 
 -- the point of a height at a spot
-abbrev pub placed : ℤ → Place → Point
-placed z s = record { x = s.x; y = s.y; z = z }
-
 -- a pair has contours below and above, and the first of them are contours of these sections
-pub record IsWithin (low high : Section) (p : PairParts) : Type 0 where
+pub record IsPairBetween (low high : Section) (p : PairParts) : Type 0 where
   pub some_below : 0 < length p.below
   pub some_above : 0 < length p.above
   pub below : slice_index p.below 0 < length low.contours.items

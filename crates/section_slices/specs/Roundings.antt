@@ -14,12 +14,12 @@ rounded d x = int_div_euclid ((pos 2 *ℤ x) +ℤ pos d) (pos (2 * d))
 abbrev pub rounded_spot : ℕ → Cut → Spot
 rounded_spot d c = record { x = rounded d c.x; y = rounded d c.y }
 
-abbrev pub is_same : Spot → Spot → Bool
-is_same s t = int_eq s.x t.x && int_eq s.y t.y
+abbrev pub is_same_spot : Spot → Spot → Bool
+is_same_spot s t = int_eq s.x t.x && int_eq s.y t.y
 
 -- spots with one spot before them, which is omitted if it is the same as s and none follows
 abbrev pub before_rest : Spot → Spot → List Spot → List Spot
-before_rest s p [] = if is_same p s then [] else p ∷ []
+before_rest s p [] = if is_same_spot p s then [] else p ∷ []
 before_rest s p (q ∷ qs) = p ∷ q ∷ qs
 
 -- spots, without those at the end that are the same as s
@@ -28,14 +28,14 @@ without_end s [] = []
 without_end s (p ∷ ps) = before_rest s p (without_end s ps)
 
 -- spots, without those at the end that are the same as the first, which stays
-abbrev pub opened : List Spot → List Spot
-opened [] = []
-opened (p ∷ ps) = p ∷ without_end p ps
+abbrev pub opened_loop : List Spot → List Spot
+opened_loop [] = []
+opened_loop (p ∷ ps) = p ∷ without_end p ps
 
 -- the points of a loop over d, each rounded; without a spot that is the same as the one before it, and then without
 -- those at the end that are the same as the first
 abbrev pub rounded_loop : ℕ → List Cut → List Spot
-rounded_loop d points = opened (dedup is_same (map (rounded_spot d) points))
+rounded_loop d points = opened_loop (dedup is_same_spot (map (rounded_spot d) points))
 
 -- |2dX - 2x| is at most d: X is at most one half away from x over d
 abbrev pub IsClose : ℕ → ℤ → ℤ → Type 0
@@ -49,6 +49,6 @@ pub record IsCloseToOne (d : ℕ) (points : List Cut) (s : Spot) : Type 0 where
   pub y : IsClose d point.y s.y
 
 -- both coordinates are in range
-pub record IsSpotInRange (s : Spot) : Type 0 where
+pub record IsRoundedInRange (s : Spot) : Type 0 where
   pub x : IsCoordinate s.x
   pub y : IsCoordinate s.y

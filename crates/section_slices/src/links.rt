@@ -3,11 +3,11 @@ ghost use Rattle.std.specs.Prelude.{◌≡◌, ◌+◌, ◌++◌, ◌<◌, ◌�
 ghost use Rattle.section_core.specs.Views.{link_parts};
 ghost use Rattle.correspondence.specs.Outlines.{held_layer};
 ghost use Rattle.correspondence.specs.Graphs.{mark, cell, table_of};
-ghost use Rattle.correspondence.specs.Named.{IsTableOf};
+ghost use Rattle.correspondence.specs.Named.{IsLinkTableOf};
 ghost use Rattle.section_pairs.specs.Pairs.{pair_parts};
 ghost use Rattle.section_pairs.specs.SectionFaults.{ArePairs};
 ghost use Rattle.section_slices.specs.Densified.{is_dense, link, pair_links, dense_links, row_links, marked_links, AreLinksOf};
-ghost use Rattle.section_slices.specs.Marks.{dense_gaps, AreAllLinks, IsWithin};
+ghost use Rattle.section_slices.specs.Marks.{dense_gaps, AreAllLinks, IsPairBetween};
 
 use crate::middles::middle_name;
 use correspondence::{LinkTable, agreement};
@@ -33,7 +33,7 @@ fn add_pair(
     place: u32,
     links: &mut Vec<Link>,
 ) -> Result<(), NoMemory>
-    requires within { IsWithin low.now high.now (pair_parts pair.now) }
+    requires within { IsPairBetween low.now high.now (pair_parts pair.now) }
     requires place { place < MAX_PAIRS }
     ensures { OnOk result
         (map link_parts links.new.items
@@ -56,7 +56,7 @@ fn dense_links(
     pairs: &[GapPair],
     gap: u32,
 ) -> Result<Vec<Link>, NoMemory>
-    requires within { All (λ p. p.gap ≡ gap → IsWithin low.now high.now (pair_parts p)) pairs.now }
+    requires within { All (λ p. p.gap ≡ gap → IsPairBetween low.now high.now (pair_parts p)) pairs.now }
     requires few { length pairs.now ≤ MAX_PAIRS }
     ensures { IfOk result (λ v.
         map link_parts v.items
@@ -123,7 +123,7 @@ fn gap_links(
     marked: bool,
 ) -> Result<Vec<Link>, NoMemory>
     requires gap { gap + 1 < length sections.now.sections }
-    requires table { IsTableOf table.now sections.now.links }
+    requires table { IsLinkTableOf table.now sections.now.links }
     requires pairs { ArePairs sections.now (map pair_parts pairs.now) }
     requires few { length pairs.now ≤ MAX_PAIRS }
     requires dense { marked ≡ is_dense sections.now (map pair_parts pairs.now) gap }

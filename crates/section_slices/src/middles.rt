@@ -1,11 +1,12 @@
 //! The middle sections, and the given sections with them.
 ghost use Rattle.std.specs.Prelude.{◌≡◌, ◌+◌, ◌<◌, ◌≤◌, All, IfOk, filter, length, map};
 ghost use Rattle.std.specs.List.{flat_map, range_with_len};
-ghost use Rattle.section_core.specs.Flat.{IsLevel, IsLevelSection};
+ghost use Rattle.section_core.specs.Flat.{IsAtHeight, IsLevelSection};
 ghost use Rattle.section_core.specs.Views.{contour_parts, section_parts};
 ghost use Rattle.section_pairs.specs.Pairs.{pair_parts};
-ghost use Rattle.section_slices.specs.Densified.{middle_height, middle_name, contour_through, middle_contour, middle_section, section_and_middle, places_in, is_at_height_of};
-ghost use Rattle.section_slices.specs.Marks.{dense_gaps, outlines_of, numbered, placed};
+ghost use Rattle.section_slices.specs.Densified.{middle_height, middle_name, contour_through, middle_contour, middle_section, section_and_middle, pair_places_in, is_at_height_of};
+ghost use Rattle.section_slices.specs.Marks.{dense_gaps, outlines_of, numbered_name};
+ghost use Rattle.section_core.specs.Views.{placed};
 
 use crate::gaps::rise;
 use arrayvec::ArrayVec;
@@ -34,7 +35,7 @@ pub fn middle_name(place: u32) -> Name
 
 fn name_text(number: u32) -> ArrayVec<u8, MAX_NAME_BYTES>
     requires { number ≤ MAX_PAIRS }
-    ensures { result.items ≡ numbered number }
+    ensures { result.items ≡ numbered_name number }
 {
     let mut buffer = Buffer::new();
     let mut text = ArrayVec::new();
@@ -68,7 +69,7 @@ fn all_placed(alloc: Global, z: i32, spots: &[Spot]) -> Result<Vec<Point>, NoMem
 // The contour at a height through spots.
 fn contour_through(alloc: Global, z: i32, name: Name, outline: &[Spot]) -> Result<Contour, NoMemory>
     ensures parts { IfOk result (λ c. contour_parts c ≡ contour_through name outline.now) }
-    ensures level { IfOk result (IsLevel z) }
+    ensures level { IfOk result (IsAtHeight z) }
 {
     let points = all_placed(alloc, z, outline)?;
     Ok(Contour { name, points })
@@ -86,8 +87,8 @@ fn middle_contours(
     requires few { length pairs.now ≤ MAX_PAIRS }
     ensures parts { IfOk result (λ v.
         map contour_parts v.items
-        ≡ map (middle_contour (outlines_of outlines.now)) (places_in (map pair_parts pairs.now) gap)) }
-    ensures level { IfOk result (λ v. All (IsLevel z) v.items) }
+        ≡ map (middle_contour (outlines_of outlines.now)) (pair_places_in (map pair_parts pairs.now) gap)) }
+    ensures level { IfOk result (λ v. All (IsAtHeight z) v.items) }
 {
     let mut contours = Vec::new(alloc);
     for place in 0..pairs.len() {

@@ -2,7 +2,7 @@
 ghost use Rattle.std.specs.Prelude.{◌≡◌, ◌*◌, ◌<◌, ◌≤◌, ◌≤ℤ◌, pos, unsigned_abs, All, IfOk, length, map, take};
 ghost use Rattle.std.specs.List.{dedup};
 ghost use Rattle.fku_types.specs.Points.{IsCoordinate};
-ghost use Rattle.section_slices.specs.Roundings.{rounded, rounded_spot, is_same, opened, rounded_loop, IsCloseToOne, IsSpotInRange};
+ghost use Rattle.section_slices.specs.Roundings.{rounded, rounded_spot, is_same_spot, opened_loop, rounded_loop, IsCloseToOne, IsRoundedInRange};
 ghost use Rattle.strip_graph.specs.Slices.{IsOver};
 
 use fku_types::limits::{MAX_COORDINATE, MAX_DIFFERENCE};
@@ -27,7 +27,7 @@ fn rounded_spot(den: u32, point: &Cut) -> Spot
     requires few { den ≤ MAX_DIFFERENCE }
     requires point { IsOver den point.now }
     ensures value { result ≡ rounded_spot den point.now }
-    ensures range { IsSpotInRange result }
+    ensures range { IsRoundedInRange result }
 {
     Spot {
         x: rounded(den, point.x),
@@ -40,7 +40,7 @@ fn all_rounded(alloc: Global, den: u32, points: &[Cut]) -> Result<Vec<Spot>, NoM
     requires few { den ≤ MAX_DIFFERENCE }
     requires points { All (IsOver den) points.now }
     ensures value { IfOk result (λ v. v.items ≡ map (rounded_spot den) points.now) }
-    ensures range { IfOk result (λ v. All IsSpotInRange v.items) }
+    ensures range { IfOk result (λ v. All IsRoundedInRange v.items) }
 {
     let mut spots = Vec::with_capacity(alloc, points.len())?;
     for point in points {
@@ -51,14 +51,14 @@ fn all_rounded(alloc: Global, den: u32, points: &[Cut]) -> Result<Vec<Spot>, NoM
 
 // Removes each spot that is the same as the one before it.
 fn drop_repeats(spots: &mut Vec<Spot>)
-    ensures { spots.new.items ≡ dedup is_same spots.old.items }
+    ensures { spots.new.items ≡ dedup is_same_spot spots.old.items }
 {
     spots.dedup();
 }
 
 // How many spots are left after those at the end that are the same as the first are removed.
 fn opened_count(spots: &[Spot]) -> usize
-    ensures { take result spots.now ≡ opened spots.now }
+    ensures { take result spots.now ≡ opened_loop spots.now }
 {
     let mut count = spots.len();
     while count > 1 && spots[count - 1] == spots[0] {
@@ -79,7 +79,7 @@ pub fn round_loop(alloc: Global, points: &[Cut], den: i32) -> Result<Vec<Spot>, 
     ensures spots { IfOk result (λ v. v.items ≡ rounded_loop (unsigned_abs den) points.now) }
     // Each spot is at most one half away from one of the points, in x and in y.
     ensures close { IfOk result (λ v. All (IsCloseToOne (unsigned_abs den) points.now) v.items) }
-    ensures range { IfOk result (λ v. All IsSpotInRange v.items) }
+    ensures range { IfOk result (λ v. All IsRoundedInRange v.items) }
     ensures some { IfOk result (λ v. 1 ≤ length v.items) }
 {
     let mut spots = all_rounded(alloc, den as u32, points)?;

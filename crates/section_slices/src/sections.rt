@@ -11,7 +11,7 @@ ghost use Rattle.section_pairs.specs.Pairs.{PairParts, pair_parts};
 ghost use Rattle.section_pairs.specs.SectionFaults.{ArePairs, IsFound};
 ghost use Rattle.section_slices.specs.Densified.{dense_pairs, IsDensified, is_at_height_of};
 ghost use Rattle.section_slices.specs.Marks.{dense_gaps};
-ghost use Rattle.section_slices.specs.Faults.{IsDensifyFault, IsDensifyMemory, IsMid, IsToldFault, Tells, IsSectionsFault, IsTestFault, IsRemakeFault, middle_fault};
+ghost use Rattle.section_slices.specs.Faults.{IsDensifyFault, IsDensifyMemory, IsMid, IsToldFault, TellsDensifyFault, IsFaultOfPairs, IsTestFault, IsRemakeFault, middle_fault};
 
 use crate::gaps::{dense_gaps, dense_strips};
 use crate::links::all_links;
@@ -55,7 +55,7 @@ fn found_pairs<P: PairSolver>(
     ensures pairs { IfOk result (λ v. ArePairs sections.now (map pair_parts v.items)) }
     ensures gaps { IfOk result (λ v. All (λ p. p.gap + 1 < length sections.now.sections) v.items) }
     ensures few { IfOk result (λ v. length v.items ≤ MAX_PAIRS) }
-    ensures fault { IfErr result (IsSectionsFault sections.now) }
+    ensures fault { IfErr result (IsFaultOfPairs sections.now) }
     ensures memory { IfErr result (IsDensifyMemory sections.now) }
 {
     match solver.find_pairs(alloc, sections) {
@@ -218,7 +218,7 @@ pub fn densify<P: PairSolver>(
     // `Found` and `Mid` never have `NoMemory`.
     ensures told { IfErr result IsToldFault }
     // Such a fault is the result, unless memory runs out.
-    ensures exact { (fault : DensifyFault) → IsDensifyFault sections.now fault → Tells fault result }
+    ensures exact { (fault : DensifyFault) → IsDensifyFault sections.now fault → TellsDensifyFault fault result }
 {
     let found = found_pairs(alloc, sections, &*solver)?;
     let made = solved_parts(alloc, sections, &found, solver)?;

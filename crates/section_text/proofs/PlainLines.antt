@@ -6,7 +6,7 @@ use Rattle.std.specs.Option.{option_map}
 use Rattle.std.specs.List.{list_all}
 use Rattle.std.proofs.lemmas.Bool.{and_from, and_parts, cond-true, false≢true}
 use Rattle.fku_types.proofs.ListLaws.{take_next}
-use Rattle.section_core.specs.Machine.{item_of, pair_of, point}
+use Rattle.section_core.specs.Machine.{item_of, as_pair, point}
 use Rattle.section_core.specs.Steps.{is_coordinate}
 use Rattle.section_core.proofs.ItemTests.{coordinate_is}
 use native.Mathlib.Numerals.{unary_clauses}
@@ -104,7 +104,7 @@ two_numbers line rest second [] x y f e s l = record {
       ap item_of
       (ap words (f.whole ∙ ap (λ (bs : List ℕ). f.word ++ bs) e) ∙ word_read f.word (32 ∷ second) f.some f.solid refl
       ∙ ap (λ (ws : List (List ℕ)). f.word ∷ ws) (ap words s.whole ∙ word_read s.word [] s.some s.solid refl))
-      ∙ ap (λ (o : Option ℤ). pair_of o f.word s.word) f.number
+      ∙ ap (λ (o : Option ℤ). as_pair o f.word s.word) f.number
       ∙ ap (option_map (λ (z : ℤ). point (x, z))) s.number;
   in_range = and_from _ _ f.in_range s.in_range;
 }

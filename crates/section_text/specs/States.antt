@@ -13,7 +13,7 @@ use Rattle.section_core.specs.Reading.{Breach, fault_at}
 use Rattle.section_core.specs.Machine.{Body, bare, in_section, in_contour, in_links, State, at_version, at_cost, at_rule, no_object, in_object, ended, parts_of}
 use Rattle.section_core.specs.Tallies.{Tallies}
 use Rattle.section_core.specs.Views.{spot_of, section_parts, contour_parts, link_parts, draft_parts, held_file}
-use Rattle.section_core.specs.Flat.{IsLevel, IsFlat, AreFlat, AreFlatDrafts}
+use Rattle.section_core.specs.Flat.{IsAtHeight, IsFlat, AreFlat, AreFlatDrafts}
 
 -- the object that the code holds open
 abbrev pub body_of : HeldBody → Body
@@ -70,7 +70,7 @@ in_place (Err fault) state = Err fault
 abbrev pub IsFlatBody : HeldBody → Type 0
 IsFlatBody body.Bare = ⊤
 IsFlatBody (body.InSection front s) = AreFlat front.items × IsFlat s
-IsFlatBody (body.InContour front s c missing) = AreFlat front.items × IsFlat s × IsLevel s.z c
+IsFlatBody (body.InContour front s c missing) = AreFlat front.items × IsFlat s × IsAtHeight s.z c
 IsFlatBody (body.InLinks sections links) = AreFlat sections.items
 
 abbrev pub IsFlatState : Held → Type 0

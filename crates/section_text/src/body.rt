@@ -6,7 +6,7 @@ ghost use Rattle.section_core.specs.Machine.{Item as Said, section, contour, poi
 ghost use Rattle.section_core.specs.Steps.{after, first_broken, is_coordinate};
 ghost use Rattle.section_core.specs.Reader.{checked, judged};
 ghost use Rattle.section_core.specs.Tallies.{Tallies, Judges};
-ghost use Rattle.section_core.specs.Flat.{IsLevel, IsFlat, AreFlat};
+ghost use Rattle.section_core.specs.Flat.{IsAtHeight, IsFlat, AreFlat};
 ghost use Rattle.section_text.specs.Items.{ItemIs};
 ghost use Rattle.section_core.specs.Numbers.{NumberIs};
 ghost use Rattle.section_core.specs.Views.{spot_of, section_parts, contour_parts, link_parts};
@@ -292,7 +292,7 @@ fn add_point(
         (pos (length contour.points.items + missing + 1)) (map spot_of contour.points.items ++ (x, y) ∷ [])
         missing) }
     ensures err { IfErr result (λ e. e ≡ Fault.NoMemory) }
-    ensures flat { AreFlat front.items → IsFlat section → IsLevel section.z contour → IfOk result IsFlatBody }
+    ensures flat { AreFlat front.items → IsFlat section → IsAtHeight section.z contour → IfOk result IsFlatBody }
 {
     let z = section.z;
     let contour = with_point(contour, Point { x, y, z })?;
@@ -309,7 +309,7 @@ fn with_point(contour: Contour, point: Point) -> Result<Contour, Fault>
         × (length c.points.items ≡ length contour.points.items + 1)
         × (map spot_of c.points.items ≡ map spot_of contour.points.items ++ spot_of point ∷ [])) }
     ensures err { IfErr result (λ e. e ≡ Fault.NoMemory) }
-    ensures flat { IsLevel point.z contour → IfOk result (IsLevel point.z) }
+    ensures flat { IsAtHeight point.z contour → IfOk result (IsAtHeight point.z) }
 {
     let mut contour = contour;
     match contour.points.push(point) {
@@ -324,7 +324,7 @@ fn with_contour(section: Section, contour: Contour) -> Result<Section, Fault>
         × (map contour_parts s.contours.items
         ≡ map contour_parts section.contours.items ++ contour_parts contour ∷ [])) }
     ensures err { IfErr result (λ e. e ≡ Fault.NoMemory) }
-    ensures flat { IsFlat section → IsLevel section.z contour → IfOk result IsFlat }
+    ensures flat { IsFlat section → IsAtHeight section.z contour → IfOk result IsFlat }
 {
     let mut section = section;
     match section.contours.push(contour) {
@@ -352,7 +352,7 @@ fn in_contour(
         contour.name (pos (length contour.points.items + missing + 1))
         (map spot_of contour.points.items) missing) it) (first_broken f it)) result tally.new
         (after f it) }
-    ensures flat { AreFlat front.items → IsFlat section → IsLevel section.z contour → IfOk result IsFlatBody }
+    ensures flat { AreFlat front.items → IsFlat section → IsAtHeight section.z contour → IfOk result IsFlatBody }
 {
     match item {
         Item::Point(x, y) => match coordinates(x, y) {

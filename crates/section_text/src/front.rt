@@ -4,7 +4,7 @@ ghost use Rattle.text_io.specs.Text.{kept_lines};
 ghost use Rattle.section_core.specs.Machine.{at_version, parts_of};
 ghost use Rattle.section_core.specs.Laws.{facts};
 ghost use Rattle.section_core.specs.Tallies.{Tallies};
-ghost use Rattle.section_core.specs.Reader.{read_file, AnswerOf, HoldsFile, read_from, Answer, Holds};
+ghost use Rattle.section_core.specs.Reader.{read_file, AnswerOf, HoldsFile, read_from, Answer, HoldsAnswer};
 ghost use Rattle.section_text.specs.Fronts.{Parses, given, objects_given, IsFrontOf, IsFaultOf, IsObjectsFrontOf, IsObjectsFaultOf, IsObjectsFrontGiven, IsReadMemory};
 ghost use Rattle.section_core.specs.Parts.{Parts, FileParts};
 ghost use Rattle.section_core.specs.Accepted.{IsAccepted, IsAcceptedFile};
@@ -51,7 +51,8 @@ pub fn parse_front(alloc: Global, bytes: &[u8]) -> Result<Front, Fault>
     // out.
     ensures memory { IfErr result (IsReadMemory Version.One bytes.now) }
     // The result is what the definition says of the text, unless memory runs out.
-    ensures exact { (answer : Answer) → Holds (kept_lines bytes.now) answer → Parses bytes.now answer (given result) }
+    ensures exact { (answer : Answer) → HoldsAnswer (kept_lines bytes.now) answer
+        → Parses bytes.now answer (given result) }
 {
     read_one(alloc, bytes)
 }
@@ -149,7 +150,7 @@ pub fn parse(alloc: Global, bytes: &[u8]) -> Result<Sections, Fault>
     // out.
     ensures memory { IfErr result (IsReadMemory Version.One bytes.now) }
     // The result is what the definition says of the text, unless memory runs out.
-    ensures exact { (answer : Answer) → Holds (kept_lines bytes.now) answer → ParsesText answer result }
+    ensures exact { (answer : Answer) → HoldsAnswer (kept_lines bytes.now) answer → ParsesText answer result }
     // The canonical text of accepted parts is read as these parts, unless memory runs out.
     ensures printed { (S : Parts) → IsAccepted S → bytes.now ≡ text_of S → ReadsBack S result }
 {

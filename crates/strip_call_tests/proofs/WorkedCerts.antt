@@ -6,21 +6,21 @@ use Rattle.fku_types.specs.declared.fault.Fault.TheVariants.{CertForm}
 use Rattle.text_io.specs.WordLists.{Kept}
 use Rattle.strip_graph.specs.declared.tilings.Step.TheVariants.{V, H}
 use Rattle.strip_graph.proofs.ComputedTests.{list_at}
-use Rattle.cert_checker.specs.CertTexts.{CertHead, IsHead, IsWord, parts_of}
-use Rattle.cert_checker.specs.CertReading.{kept_behind, last_line, IsFaultOf}
+use Rattle.cert_checker.specs.CertTexts.{CertHead, IsHead, IsWord, certificate_parts}
+use Rattle.cert_checker.specs.CertReading.{kept_behind, last_line, IsCertificateFault}
 use Rattle.cert_checker.proofs.Fronts.{begins_none}
 use Rattle.cert_checker.proofs.NextLines.{short_none}
 use Rattle.pair_pool.specs.Solvers.{Solver}
 
 -- the pair, the counts, the cost and the start row are in the head; then follow the word and the numbers
-parts : (v : Vec ℤ Global) → parts_of (record { pair = 7; cert = record { rows = 3; cols = 4; cost = negsuc 9; tiling = record { row = 2; word = list_at v (V ∷ H ∷ []) tt }; pi = list_at v (pos 5 ∷ negsuc 0 ∷ []) tt } }) ≡ record { head = record { pair = 7; rows = 3; cols = 4; cost = negsuc 9; start = 2 }; word = V ∷ H ∷ []; values = pos 5 ∷ negsuc 0 ∷ [] }
+parts : (v : Vec ℤ Global) → certificate_parts (record { pair = 7; cert = record { rows = 3; cols = 4; cost = negsuc 9; tiling = record { row = 2; word = list_at v (V ∷ H ∷ []) tt }; pi = list_at v (pos 5 ∷ negsuc 0 ∷ []) tt } }) ≡ record { head = record { pair = 7; rows = 3; cols = 4; cost = negsuc 9; start = 2 }; word = V ∷ H ∷ []; values = pos 5 ∷ negsuc 0 ∷ [] }
 parts v = refl
 
 -- the fault of no text at all, after 16 lines of an input: one past these
 abbrev no_lines : List Kept
 no_lines = kept_behind 16 []
 
-no_text : IsFaultOf no_lines (last_line 16 []) (CertForm 17)
+no_text : IsCertificateFault no_lines (last_line 16 []) (CertForm 17)
 no_text = inr (record { past = refl; begins = begins_none [] tt; none = λ C r. short_none C [] tt r.match })
 
 -- the numbers of a first line

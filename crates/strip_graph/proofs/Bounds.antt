@@ -11,7 +11,7 @@ use Rattle.plane_geom.specs.Rings.{IsRing, around, origin}
 use Rattle.strip_graph.specs.declared.tilings.Step.{Step}
 use Rattle.strip_graph.specs.declared.tilings.Step.TheVariants.{V, H}
 use Rattle.strip_graph.specs.Words.{Arcs, word_cost, count_v, count_h}
-use Rattle.plane_geom.specs.Planes.{cross}
+use Rattle.plane_geom.specs.Planes.{cross_product}
 use Rattle.plane_geom.specs.Lengths.{distance_square}
 use Rattle.strip_graph.specs.Strips.{Strip, IsStrip, rows, cols, rule_cost, step_cost_limit, arcs, step_cost, area_square}
 use Rattle.strip_graph.specs.Tilings.{IsAcceptable}
@@ -30,7 +30,7 @@ square-le v n h = mul-le-mul h h
 gap : (x y : ℤ) → unsigned_abs x ≤ 999999 → unsigned_abs y ≤ 999999 → unsigned_abs (x -ℤ y) ≤ 1999998
 gap x y h k = omega (arith, ints)
 
-cross-le : (a b c d : ℤ) → unsigned_abs a ≤ 1999998 → unsigned_abs b ≤ 1999998 → unsigned_abs c ≤ 1999998 → unsigned_abs d ≤ 1999998 → unsigned_abs (cross a b c d) ≤ 8000000000000
+cross-le : (a b c d : ℤ) → unsigned_abs a ≤ 1999998 → unsigned_abs b ≤ 1999998 → unsigned_abs c ≤ 1999998 → unsigned_abs d ≤ 1999998 → unsigned_abs (cross_product a b c d) ≤ 8000000000000
 cross-le a b c d p q r s = difference-le (a *ℤ d) (b *ℤ c) (product-le a d p s) (product-le b c q r)
 
 pub distance_square-below : (a b : Point) → IsInRange a → IsInRange b → distance_square a b ≤ 12 * 10 ^ 12
@@ -39,9 +39,9 @@ distance_square-below a b p q =
     omega (arith, square-le (a.x -ℤ b.x) 1999998 (gap a.x b.x p.x q.x), square-le (a.y -ℤ b.y) 1999998 (gap a.y b.y p.y q.y), square-le (a.z -ℤ b.z) 1999998 (gap a.z b.z p.z q.z))
 
 -- one part of the cross product of two sides
-part-le : (a a' b b' c c' : ℤ) → unsigned_abs a ≤ 999999 → unsigned_abs a' ≤ 999999 → unsigned_abs b ≤ 999999 → unsigned_abs b' ≤ 999999 → unsigned_abs c ≤ 999999 → unsigned_abs c' ≤ 999999 → square (cross (b -ℤ a) (b' -ℤ a') (c -ℤ a) (c' -ℤ a')) ≤ 64 * 10 ^ 24
+part-le : (a a' b b' c c' : ℤ) → unsigned_abs a ≤ 999999 → unsigned_abs a' ≤ 999999 → unsigned_abs b ≤ 999999 → unsigned_abs b' ≤ 999999 → unsigned_abs c ≤ 999999 → unsigned_abs c' ≤ 999999 → square (cross_product (b -ℤ a) (b' -ℤ a') (c -ℤ a) (c' -ℤ a')) ≤ 64 * 10 ^ 24
 part-le a a' b b' c c' h h' k k' l l' =
-    square-le (cross (b -ℤ a) (b' -ℤ a') (c -ℤ a) (c' -ℤ a')) 8000000000000 (cross-le (b -ℤ a) (b' -ℤ a') (c -ℤ a) (c' -ℤ a') (gap b a k h) (gap b' a' k' h') (gap c a l h) (gap c' a' l' h'))
+    square-le (cross_product (b -ℤ a) (b' -ℤ a') (c -ℤ a) (c' -ℤ a')) 8000000000000 (cross-le (b -ℤ a) (b' -ℤ a') (c -ℤ a) (c' -ℤ a') (gap b a k h) (gap b' a' k' h') (gap c a l h) (gap c' a' l' h'))
 
 pub area_square-below : (a b c : Point) → IsInRange a → IsInRange b → IsInRange c → area_square a b c ≤ 192 * 10 ^ 24
 unfolding area_square

@@ -4,13 +4,13 @@ use Rattle.fku_types.specs.declared.limits.TheConstants.{MAX_DIFFERENCE}
 use Rattle.fku_types.specs.declared.points.Point.{Point}
 use Rattle.fku_types.specs.Points.{square}
 use Rattle.plane_geom.specs.Rings.{around}
-use Rattle.plane_geom.specs.Planes.{cross}
+use Rattle.plane_geom.specs.Planes.{cross_product}
 use Rattle.strip_graph.specs.declared.areas.Edge.{Edge}
 use Rattle.strip_graph.specs.Strips.{area_square}
 
 -- the squared doubled area of the tile of an edge and a point across
 abbrev pub edge_area : Edge → Point → ℕ
-edge_area e q = e.upright + square (cross e.x e.y q.x q.y -ℤ e.turn)
+edge_area e q = e.upright + square (cross_product e.x e.y q.x q.y -ℤ e.turn)
 
 -- the edge from a to b, for its tiles with points at height z
 pub record IsEdge (e : Edge) (a b : Point) (z : ℤ) : Type 0 where

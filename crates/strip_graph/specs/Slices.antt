@@ -9,8 +9,8 @@ use Rattle.strip_graph.specs.Strips.{Strip}
 use Rattle.strip_graph.specs.Spans.{spans}
 
 -- the point that lies t/d of the way up the span of row i and column j, its x and y times d
-abbrev pub cut : Strip → ℕ → ℕ → ℕ → ℕ → Cut
-cut s d t i j = record {
+abbrev pub span_cut : Strip → ℕ → ℕ → ℕ → ℕ → Cut
+span_cut s d t i j = record {
   x = scaled d t (around s.low i).x (around s.high j).x;
   y = scaled d t (around s.low i).y (around s.high j).y;
 }
@@ -22,4 +22,4 @@ pub record IsOver (d : ℕ) (c : Cut) : Type 0 where
 
 -- the loop of a word from the span of row i and column j: such a point of each span that it passes
 abbrev pub slice_loop : Strip → ℕ → ℕ → ℕ → ℕ → List Step → List Cut
-slice_loop s d t i j w = map (λ span. cut s d t span.row span.col) (spans i j w)
+slice_loop s d t i j w = map (λ span. span_cut s d t span.row span.col) (spans i j w)

@@ -6,7 +6,7 @@ use Rattle.fku_types.specs.declared.rules.CostRule.TheVariants.{Span, Area, Mix}
 use Rattle.fku_types.specs.Rules.{IsWeighted}
 use Rattle.fku_types.specs.Points.{square}
 use Rattle.plane_geom.specs.Rings.{IsRing, around}
-use Rattle.plane_geom.specs.Planes.{cross}
+use Rattle.plane_geom.specs.Planes.{cross_product}
 use Rattle.plane_geom.specs.Lengths.{distance_square}
 use Rattle.strip_graph.specs.declared.tilings.Step.TheVariants.{V, H}
 use Rattle.strip_graph.specs.Words.{Arcs}
@@ -29,9 +29,9 @@ cols p = length p.high
 -- the squared length of the cross product of (b - a) and (c - a), that is the squared doubled area of the triangle
 unfoldable pub area_square : Point → Point → Point → ℕ
 area_square a b c =
-    square (cross (b.y -ℤ a.y) (b.z -ℤ a.z) (c.y -ℤ a.y) (c.z -ℤ a.z))
-    + square (cross (b.z -ℤ a.z) (b.x -ℤ a.x) (c.z -ℤ a.z) (c.x -ℤ a.x))
-    + square (cross (b.x -ℤ a.x) (b.y -ℤ a.y) (c.x -ℤ a.x) (c.y -ℤ a.y))
+    square (cross_product (b.y -ℤ a.y) (b.z -ℤ a.z) (c.y -ℤ a.y) (c.z -ℤ a.z))
+    + square (cross_product (b.z -ℤ a.z) (b.x -ℤ a.x) (c.z -ℤ a.z) (c.x -ℤ a.x))
+    + square (cross_product (b.x -ℤ a.x) (b.y -ℤ a.y) (c.x -ℤ a.x) (c.y -ℤ a.y))
 
 -- what a step costs under a rule, by the squared span that it leads to and its tile's area_square
 abbrev pub rule_cost : CostRule → ℕ → ℕ → ℕ

@@ -1,7 +1,7 @@
 //! The squared doubled areas of tiles.
 ghost use Rattle.std.specs.Prelude.{◌≡◌, ◌+◌, ◌*◌, ◌≤◌, ◌^◌, unsigned_abs};
 ghost use Rattle.fku_types.specs.Points.{square, IsCoordinate, IsInRange};
-ghost use Rattle.plane_geom.specs.Planes.{cross};
+ghost use Rattle.plane_geom.specs.Planes.{cross_product};
 ghost use Rattle.strip_graph.specs.Strips.{area_square};
 ghost use Rattle.strip_graph.specs.Edges.{edge_area, IsEdge};
 
@@ -36,7 +36,7 @@ fn cross_square(a: i64, b: i64, c: i64, d: i64) -> u128
     requires b { unsigned_abs b ≤ MAX_DIFFERENCE }
     requires c { unsigned_abs c ≤ MAX_DIFFERENCE }
     requires d { unsigned_abs d ≤ MAX_DIFFERENCE }
-    ensures value { result ≡ square (cross a b c d) }
+    ensures value { result ≡ square (cross_product a b c d) }
     ensures range { result ≤ 64 * 10 ^ 24 }
 {
     square(cross(a, b, c, d))

@@ -14,8 +14,8 @@ use Rattle.section_core.specs.Texts.{IsTextOfFile}
 use Rattle.strip_graph.specs.Strips.{Strip}
 use Rattle.row_paths.specs.Solutions.{Solution}
 use Rattle.pair_pool.specs.Solvers.{SolvesEach}
-use Rattle.cert_checker.specs.CertTexts.{parts_of}
-use Rattle.cert_checker.specs.CertReading.{ReadsAs as ReadsAsCert, IsCertFault}
+use Rattle.cert_checker.specs.CertTexts.{certificate_parts}
+use Rattle.cert_checker.specs.CertReading.{ReadsAsMesh as ReadsAsCert, IsCertFault}
 use Rattle.plane_geom.specs.Rings.{IsClosed}
 use Rattle.triangle_meshes.specs.Meshes.{Surface, surface_of}
 use Rattle.byu_text.specs.Byu.{byu_of}
@@ -38,13 +38,13 @@ use Rattle.pair_commands.specs.Check.{TellsVerdict, on_cert, verdict}
 use Rattle.surface_commands.specs.Reconstruct.{reconstruct}
 use Rattle.surface_commands.specs.RingCaps.{IsRingSurfaceOf, ring_caps}
 use Rattle.byu_text.specs.Answers.{IsByuFault}
-use Rattle.byu_text.specs.Reading.{ReadsAs}
+use Rattle.byu_text.specs.Reading.{ReadsAsMesh}
 use Rattle.surface_commands.specs.Measure.{TellsMeasures}
 use Rattle.surface_commands.specs.Crossings.{crossings_text}
 use Rattle.surface_cli.specs.Commands.{rule_of}
 use Rattle.surface_cli.specs.Out.{Answers, IsOutOf}
 use Rattle.surface_cli.specs.Run.{Outside, Runs, WritesWhole}
-use Rattle.surface_cli.specs.Headline.{AreAcceptable, IsLeast, AsksFor, AsksForCheck, AsksForCrossings, AsksForMeasures, AsksForRingSurface, AsksForSurface, AsksForTilings, IsCrossed, IsJudged, IsLeastClosedSurface, IsLeastListing, IsLeastRingSurface, IsMeasured}
+use Rattle.surface_cli.specs.Headline.{AreAcceptable, IsLeastMesh, AsksFor, AsksForCheck, AsksForCrossings, AsksForMeasures, AsksForRingSurface, AsksForSurface, AsksForTilings, IsCrossed, IsJudged, IsLeastClosedSurface, IsLeastListing, IsLeastRingSurface, IsMeasured}
 use Rattle.command_replies.proofs.ReplyLemmas.{went, written_done}
 use Rattle.surface_cli.proofs.VerdictLines.{accepted_line}
 
@@ -59,7 +59,7 @@ same_text : {s t : List ℕ} {m n : ℕ} → told s m ≡ told t n → s ≡ t
 same_text e = cc
 
 -- each object has its mesh
-surface_is : (C : Capping) (S : Parts) (b : Built) → IsBuiltWith C S b → IsLeast (IsSurfaceWith C) S (surface_of b.mesh)
+surface_is : (C : Capping) (S : Parts) (b : Built) → IsBuiltWith C S b → IsLeastMesh (IsSurfaceWith C) S (surface_of b.mesh)
 surface_is C S b is = record {
   pairs = is.pairs;
   are_pairs = is.are_pairs;
@@ -69,8 +69,8 @@ surface_is C S b is = record {
   surface = is.surface;
 }
 
-least_each : (Is : Parts → Built → Type 0) (IsMadeOf : Parts → List PairParts → List Solution → Surface → Type 0) → ((S : Parts) (b : Built) → Is S b → IsLeast IsMadeOf S (surface_of b.mesh))
-    → (objects : List Parts) (each : List Built) → AllZip Is objects each → AllZip (IsLeast IsMadeOf) objects (surfaces_of each)
+least_each : (Is : Parts → Built → Type 0) (IsMadeOf : Parts → List PairParts → List Solution → Surface → Type 0) → ((S : Parts) (b : Built) → Is S b → IsLeastMesh IsMadeOf S (surface_of b.mesh))
+    → (objects : List Parts) (each : List Built) → AllZip Is objects each → AllZip (IsLeastMesh IsMadeOf) objects (surfaces_of each)
 least_each Is IsMadeOf make [] [] h = tt
 least_each Is IsMadeOf make [] (b ∷ each) h = absurd h
 least_each Is IsMadeOf make (S ∷ objects) [] h = absurd h
@@ -112,10 +112,10 @@ measure_answers : (input text : List ℕ) (n : ℕ) → Answers Measure input Do
 measure_answers input text n is =
     let done = written_done is.0 text n is.2 in
     let read = went (IsTooLong MAX_MESH_BYTES input) (IsWhole MAX_MESH_BYTES input) (rule_of Measure) is.0 is.1 done.0 in
-    let mesh = went (IsByuFault read.0) (ReadsAs read.0) TellsMeasures is.0 read.2 done.0 in
+    let mesh = went (IsByuFault read.0) (ReadsAsMesh read.0) TellsMeasures is.0 read.2 done.0 in
     record {
       mesh = mesh.0;
-      read = subst (λ (bytes : List ℕ). ReadsAs bytes mesh.0) read.1.1 mesh.1;
+      read = subst (λ (bytes : List ℕ). ReadsAsMesh bytes mesh.0) read.1.1 mesh.1;
       measures = mesh.2.measures;
       are = mesh.2.are;
       written = same_text (sym done.1 ∙ mesh.2.tells);
@@ -125,10 +125,10 @@ crossings_answers : (input text : List ℕ) (n : ℕ) → Answers Crossings inpu
 crossings_answers input text n is =
     let done = written_done is.0 text n is.2 in
     let read = went (IsTooLong MAX_MESH_BYTES input) (IsWhole MAX_MESH_BYTES input) (rule_of Crossings) is.0 is.1 done.0 in
-    let mesh = went (IsByuFault read.0) (ReadsAs read.0) (λ (m : Surface). Tells (crossings_text m) 0) is.0 read.2 done.0 in
+    let mesh = went (IsByuFault read.0) (ReadsAsMesh read.0) (λ (m : Surface). Tells (crossings_text m) 0) is.0 read.2 done.0 in
     record {
       mesh = mesh.0;
-      read = subst (λ (bytes : List ℕ). ReadsAs bytes mesh.0) read.1.1 mesh.1;
+      read = subst (λ (bytes : List ℕ). ReadsAsMesh bytes mesh.0) read.1.1 mesh.1;
       written = same_text (sym done.1 ∙ mesh.2);
     }
 
@@ -162,7 +162,7 @@ check_answers input text n is k c accepts =
     let tail = front.0.1 in
     let numbered = went (IsFoundIn F) (AreNumbered F) (λ ps. on_cert last tail (λ t. on_pair ps t.pair (λ p. TellsVerdict p.strip t))) is.0 front.2 done.0 in
     let ps = numbered.0 in
-    let cert = went (IsCertFault tail last) (λ t. ReadsAsCert tail (parts_of t)) (λ t. on_pair ps t.pair (λ p. TellsVerdict p.strip t)) is.0 numbered.2 done.0 in
+    let cert = went (IsCertFault tail last) (λ t. ReadsAsCert tail (certificate_parts t)) (λ t. on_pair ps t.pair (λ p. TellsVerdict p.strip t)) is.0 numbered.2 done.0 in
     let t = cert.0 in
     let pair = went (IsNoPair ps t.pair) (IsPairOf ps t.pair) (λ p. TellsVerdict p.strip t) is.0 cert.2 done.0 in
     let says = pair.2 in

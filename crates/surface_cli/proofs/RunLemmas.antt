@@ -15,7 +15,7 @@ use Rattle.surface_cli.specs.Words.{meaning}
 use Rattle.surface_cli.specs.Out.{IsOut, IsOutOf, Answers}
 use Rattle.command_replies.specs.Reply.{Reply, told, refused, fails, goes_on, IsWritten, counted}
 use Rattle.command_replies.specs.Stages.{on_input}
-use Rattle.surface_cli.specs.Run.{Outside, Runs, IsComplete, IsRun, IsReply, Reads, HasMeaning, HasReadingMeaning, IsInput, IsGiven, WritesFront, WritesWhole, EndsReading, ReadsToEnd, Counts, IsToDensify, IsWork, SetsWorkers, workers_of}
+use Rattle.surface_cli.specs.Run.{Outside, Runs, IsComplete, IsRun, IsReply, ReadsInput, HasMeaning, HasReadingMeaning, IsInput, IsGiven, WritesFront, WritesWhole, EndsReading, ReadsToEnd, CountsPairs, IsToDensify, IsWork, SetsWorkers, workers_of}
 
 -- what the contract of the writing function says
 pub record Wrote (o : Outside) (s r : Status) (text : List ℕ) : Type 0 where
@@ -83,7 +83,7 @@ pub is_run : (words : List (List ℕ)) (o : Outside) (r : Status) → Runs words
 is_run words o r runs = record { runs = runs; complete = complete words o r runs }
 
 -- the count of the solver after a usage error: it stays
-bad_counts : (words : List (List ℕ)) (o : Outside) (count : ℕ) (r : Status) → meaning words ≡ None → Wrote o BadWords r usage → Counts words o.left count count r
+bad_counts : (words : List (List ℕ)) (o : Outside) (count : ℕ) (r : Status) → meaning words ≡ None → Wrote o BadWords r usage → CountsPairs words o.left count count r
 bad_counts words o count Done m w = absurd (cc ((w.whole (λ e. cc)).0))
 bad_counts words o count Refused m w = absurd (cc ((w.whole (λ e. cc)).0))
 bad_counts words o count BadWords m w = refl
@@ -109,7 +109,7 @@ work_bad words o s r m w = record {
 
 -- the count of the solver after an answer
 reply_counts : (words : List (List ℕ)) (o : Outside) (before after : ℕ) (s r : Status) (text : List ℕ) → IsReply s → ((IsToDensify (meaning words) → ⊥) → s ≡ Refused → after ≡ before) → before ≤ after → Answered words o.left before after s text
-    → Wrote o s r text → Counts words o.left before after r
+    → Wrote o s r text → CountsPairs words o.left before after r
 reply_counts words o before after s Done text a stays later is w =
     let same = (w.whole (λ e. cc)).0 in
     λ input h. let out = is input h in (text, out.0, subst (λ s. IsOut words input s text out.0) (sym same) out.1, out.2)
@@ -134,7 +134,7 @@ pub has_meaning : (words : List (List ℕ)) (task : Task) → meaning words ≡ 
 has_meaning words task m = subst IsSome (sym m) refl
 
 pub reading : (words : List (List ℕ)) (task : Task) → meaning words ≡ Some task → IsSome (input_limit task.command) → HasReadingMeaning words
-reading words task m reads = subst Reads (sym m) reads
+reading words task m reads = subst ReadsInput (sym m) reads
 
 same_task : (words : List (List ℕ)) (task other : Task) → meaning words ≡ Some task → meaning words ≡ Some other → task ≡ other
 same_task words task other m n = let e : Some task ≡ Some other = sym m ∙ n in cc

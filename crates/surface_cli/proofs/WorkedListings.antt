@@ -16,15 +16,15 @@ use Rattle.row_paths.proofs.SolutionLaws.{solves_least}
 use Rattle.pair_pool.specs.Solvers.{SolvesEach}
 use Rattle.cert_checker.specs.declared.certs.CertText.{CertText}
 use Rattle.cert_checker.specs.declared.certs.Verdict.TheVariants.{Accept}
-use Rattle.cert_checker.specs.CertTexts.{parts_of}
-use Rattle.cert_checker.specs.CertReading.{ReadsAs, kept_behind}
+use Rattle.cert_checker.specs.CertTexts.{certificate_parts}
+use Rattle.cert_checker.specs.CertReading.{ReadsAsCertificate, kept_behind}
 use Rattle.section_pairs.proofs.Worked.{squares}
 use Rattle.section_pairs.proofs.WorkedSquares.{pair, squares_paired}
 use Rattle.surface_core.specs.Objects.{AreAllPairs, numbered}
 use Rattle.surface_core.proofs.StripSteps.{are_least}
 use Rattle.pair_commands.specs.Tilings.{objects_text}
 use Rattle.pair_commands.specs.Check.{verdict_text}
-use Rattle.surface_cli.specs.Headline.{IsAccepted, IsJudged, IsLeastListing}
+use Rattle.surface_cli.specs.Headline.{IsCertifiedInput, IsJudged, IsLeastListing}
 use Rattle.surface_cli.proofs.VerdictLines.{accepted_line}
 
 abbrev one_stack : FileParts
@@ -81,7 +81,7 @@ tail = kept_behind 16 (codes "CERT 1 PAIR 1 ROWS 4 COLS 4 COST 1200 START 0\nWOR
 abbrev cert : Vec ℤ Global → CertText
 cert v = record { pair = 1; cert = record { rows = 4; cols = 4; cost = pos 1200; tiling = record { row = 0; word = list_at v by_turns tt }; pi = list_at v numbers tt } }
 
-read : (v : Vec ℤ Global) → ReadsAs tail (parts_of (cert v))
+read : (v : Vec ℤ Global) → ReadsAsCertificate tail (certificate_parts (cert v))
 read v = record {
   lawful = record {
     head = record { pair = (omega arith, omega arith); rows = (omega arith, omega arith); cols = (omega arith, omega arith); cost = omega arith; start = omega arith };
@@ -92,7 +92,7 @@ read v = record {
   match = ((refl, (refl, (refl, (refl, (refl, (refl, (refl, (refl, (refl, (refl, (refl, (refl, tt)))))))))))), ((refl, (refl, tt)), ((refl, (refl, (refl, (refl, (refl, tt))))), ((refl, (refl, (refl, (refl, (refl, tt))))), ((refl, (refl, (refl, (refl, (refl, tt))))), ((refl, (refl, (refl, (refl, (refl, tt))))), ((refl, (refl, (refl, (refl, (refl, tt))))), ((refl, (refl, (refl, (refl, (refl, tt))))), ((refl, (refl, (refl, (refl, (refl, tt))))), ((refl, (refl, (refl, (refl, (refl, tt))))), ((refl, tt), tt)))))))))));
 }
 
-accepted : (v : Vec ℤ Global) → IsAccepted certified_text 1 (pos 1200)
+accepted : (v : Vec ℤ Global) → IsCertifiedInput certified_text 1 (pos 1200)
 accepted v = record {
   objects = one_stack;
   tail = tail;
@@ -113,12 +113,12 @@ unfolding digits
 judged v k c e =
     let line : codes "ACCEPT PAIR 1 COST 1200\n" ≡ verdict_text 1 (pos 1200) Accept = refl in
     let same = accepted_line k 1 c (pos 1200) Accept (omega arith) (omega arith) (sym e ∙ line) in
-    subst (λ (m : ℕ). IsAccepted certified_text m c) (sym same.1) (subst (λ (d : ℤ). IsAccepted certified_text 1 d) (sym same.2) (accepted v))
+    subst (λ (m : ℕ). IsCertifiedInput certified_text m c) (sym same.1) (subst (λ (d : ℤ). IsCertifiedInput certified_text 1 d) (sym same.2) (accepted v))
 
 -- pairs are counted from 1
-no_pair_0 : (input : List ℕ) (c : ℤ) → IsAccepted input 0 c → ⊥
+no_pair_0 : (input : List ℕ) (c : ℤ) → IsCertifiedInput input 0 c → ⊥
 no_pair_0 input c h = omega (arith, h.is_pair.counted)
 
 -- no certificate with a cost below 0 is accepted
-not_below_0 : (input : List ℕ) (k n : ℕ) → IsAccepted input k (negsuc n) → ⊥
+not_below_0 : (input : List ℕ) (k n : ℕ) → IsCertifiedInput input k (negsuc n) → ⊥
 not_below_0 input k n h = let e = sym h.says.1 ∙ h.least.cost in absurd (cc)

@@ -75,26 +75,26 @@ abbrev pub surface_text : Surface → List ℕ
 surface_text = byu_of
 
 -- the work of each command
-abbrev pub work_of : Command → Work
-work_of Tilings = of_objects tilings
-work_of Reconstruct = of_objects (reconstruct surface_text)
-work_of Report = of_objects report
-work_of (Certify k) = of_objects (certify k)
-work_of Check = record { limit = Some MAX_CHECK_BYTES; rule = check }
-work_of (Slice z) = of_objects (slice z)
-work_of Edit = of_front (edit surface_text)
-work_of (Demo seed sections vertices) = record { limit = None; rule = λ bytes. demo_report seed sections vertices }
-work_of Landmarks = of_front landmarks
-work_of RingCaps = of_objects (ring_caps surface_text)
-work_of Count = of_mesh count
-work_of Densify = of_objects densify
-work_of Measure = of_mesh measure
-work_of Crossings = of_mesh crossings
+abbrev pub command_work : Command → Work
+command_work Tilings = of_objects tilings
+command_work Reconstruct = of_objects (reconstruct surface_text)
+command_work Report = of_objects report
+command_work (Certify k) = of_objects (certify k)
+command_work Check = record { limit = Some MAX_CHECK_BYTES; rule = check }
+command_work (Slice z) = of_objects (slice z)
+command_work Edit = of_front (edit surface_text)
+command_work (Demo seed sections vertices) = record { limit = None; rule = λ bytes. demo_report seed sections vertices }
+command_work Landmarks = of_front landmarks
+command_work RingCaps = of_objects (ring_caps surface_text)
+command_work Count = of_mesh count
+command_work Densify = of_objects densify
+command_work Measure = of_mesh measure
+command_work Crossings = of_mesh crossings
 
 -- how many bytes of its input a command reads at most; none if it does not read
 abbrev pub input_limit : Command → Option ℕ
-input_limit command = (work_of command).limit
+input_limit command = (command_work command).limit
 
 -- the reply of a command to the bytes that it has read
 abbrev pub rule_of : Command → List ℕ → Reply → Type 0
-rule_of command = (work_of command).rule
+rule_of command = (command_work command).rule

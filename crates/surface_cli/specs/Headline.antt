@@ -11,13 +11,13 @@ use Rattle.strip_graph.specs.Tilings.{IsAcceptable}
 use Rattle.strip_graph.specs.Strips.{Strip, rows, cols, arcs}
 use Rattle.cert_checker.specs.declared.certs.CertText.{CertText}
 use Rattle.cert_checker.specs.declared.certs.Verdict.TheVariants.{Accept}
-use Rattle.cert_checker.specs.CertTexts.{parts_of}
-use Rattle.cert_checker.specs.CertReading.{ReadsAs as ReadsAsCert}
+use Rattle.cert_checker.specs.CertTexts.{certificate_parts}
+use Rattle.cert_checker.specs.CertReading.{ReadsAsMesh as ReadsAsCert}
 use Rattle.row_paths.specs.Solutions.{Solution}
 use Rattle.triangle_meshes.specs.Meshes.{Surface}
 use Rattle.triangle_meshes.specs.Joined.{joined}
 use Rattle.byu_text.specs.Byu.{byu_of}
-use Rattle.byu_text.specs.Reading.{ReadsAs}
+use Rattle.byu_text.specs.Reading.{ReadsAsMesh}
 use Rattle.mesh_measures.specs.declared.measuring.Measures.{Measures}
 use Rattle.surface_commands.specs.Measure.{AreMeasures, measures_text}
 use Rattle.surface_commands.specs.Crossings.{crossings_text}
@@ -47,7 +47,7 @@ pub record AreAcceptable (strips : List Strip) (tilings : List Solution) : Type 
 
 -- A mesh is made of the sections of an object and, for each pair of composite contours, the tiles of its tiling; and no
 -- acceptable tiling of a pair, from any start, costs less than the one used.
-pub record IsLeast (IsMadeOf : Parts → List PairParts → List Solution → Surface → Type 0) (S : Parts)
+pub record IsLeastMesh (IsMadeOf : Parts → List PairParts → List Solution → Surface → Type 0) (S : Parts)
     (mesh : Surface) : Type 0 where
   pub pairs : List PairParts
   pub are_pairs : ArePairs S pairs
@@ -63,7 +63,7 @@ pub record IsLeastClosed (IsMadeOf : Parts → List PairParts → List Solution 
   pub objects : FileParts
   pub read : IsTextOfFile input objects
   pub meshes : List Surface
-  pub least : AllZip (IsLeast IsMadeOf) (objects_in objects) meshes
+  pub least : AllZip (IsLeastMesh IsMadeOf) (objects_in objects) meshes
   pub closed : All IsClosed (joined meshes).parts
   pub written : text ≡ byu_of (joined meshes)
 
@@ -79,7 +79,7 @@ IsLeastRingSurface input text = IsLeastClosed IsRingSurface input text
 -- definition.
 pub record IsMeasured (input text : List ℕ) : Type 0 where
   pub mesh : Surface
-  pub read : ReadsAs input mesh
+  pub read : ReadsAsMesh input mesh
   pub measures : List Measures
   pub are : AllZip (AreMeasures mesh.vertices) mesh.parts measures
   pub written : text ≡ measures_text measures
@@ -88,7 +88,7 @@ pub record IsMeasured (input text : List ℕ) : Type 0 where
 -- count.
 pub record IsCrossed (input text : List ℕ) : Type 0 where
   pub mesh : Surface
-  pub read : ReadsAs input mesh
+  pub read : ReadsAsMesh input mesh
   pub written : text ≡ crossings_text mesh
 
 -- A text lists a tiling for each pair of each object of an input, in order: each is acceptable and costs what is
@@ -105,12 +105,12 @@ pub record IsLeastListing (input text : List ℕ) : Type 0 where
 
 -- An input reads as objects with a certificate after them, which states that it is that of their pair k and costs c:
 -- its tiling is acceptable and costs c, and no acceptable tiling of the pair, from any start, costs less.
-pub record IsAccepted (input : List ℕ) (k : ℕ) (c : ℤ) : Type 0 where
+pub record IsCertifiedInput (input : List ℕ) (k : ℕ) (c : ℤ) : Type 0 where
   pub objects : FileParts
   pub tail : List Kept
   pub front : IsFront input (objects, tail)
   pub certificate : CertText
-  pub reads : ReadsAsCert tail (parts_of certificate)
+  pub reads : ReadsAsCert tail (certificate_parts certificate)
   pub says : (certificate.pair ≡ k) × (certificate.cert.cost ≡ c)
   pub pairs : List PairParts
   pub are_pairs : AreNumbered objects pairs
@@ -120,7 +120,7 @@ pub record IsAccepted (input : List ℕ) (k : ℕ) (c : ℤ) : Type 0 where
 
 -- If a text is the line `ACCEPT PAIR k COST c`, the input's certificate of pair k and cost c is that of a least tiling.
 abbrev pub IsJudged : List ℕ → List ℕ → Type 0
-IsJudged input text = (k : ℕ) (c : ℤ) → text ≡ verdict_text k c Accept → IsAccepted input k c
+IsJudged input text = (k : ℕ) (c : ℤ) → text ≡ verdict_text k c Accept → IsCertifiedInput input k c
 
 -- the words ask for a command, with any number of workers
 abbrev pub AsksFor : Command → List (List ℕ) → Type 0

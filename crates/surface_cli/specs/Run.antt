@@ -42,16 +42,16 @@ outside left read_faults source source_after held write_faults sink sink_after =
 }
 
 -- this is the meaning of a task that reads its input
-abbrev pub Reads : Option Task → Type 0
-Reads None = ⊥
-Reads (Some task) = IsSome (input_limit task.command)
+abbrev pub ReadsInput : Option Task → Type 0
+ReadsInput None = ⊥
+ReadsInput (Some task) = IsSome (input_limit task.command)
 
 -- the words have a meaning, and one that reads
 abbrev pub HasMeaning : List (List ℕ) → Type 0
 HasMeaning words = IsSome (meaning words)
 
 abbrev pub HasReadingMeaning : List (List ℕ) → Type 0
-HasReadingMeaning words = Reads (meaning words)
+HasReadingMeaning words = ReadsInput (meaning words)
 
 -- the input, as far as the words read it: the bytes that the source knows; any bytes if the words read none
 abbrev pub IsInput : List (List ℕ) → Option (List ℕ) → List ℕ → Type 0
@@ -71,13 +71,13 @@ WritesFront words o =
     × Appends o.held o.held_after (take n text)
 
 -- the input is at most as long as the command's limit
-abbrev pub IsWithin : Command → List ℕ → Type 0
-IsWithin command input = IfSome (input_limit command) (λ limit. length input ≤ limit)
+abbrev pub IsInputWithin : Command → List ℕ → Type 0
+IsInputWithin command input = IfSome (input_limit command) (λ limit. length input ≤ limit)
 
 -- a command that reads took its input to the end, if the input is within its limit
 abbrev pub EndsReading : Command → Option (List ℕ) → Option (List ℕ) → Type 0
 EndsReading command left left_after =
-    IfSome left (λ input. IsSome (input_limit command) → IsWithin command input → IsAtEnd left_after)
+    IfSome left (λ input. IsSome (input_limit command) → IsInputWithin command input → IsAtEnd left_after)
 
 abbrev pub ReadsToEnd : List (List ℕ) → Outside → Type 0
 ReadsToEnd words o = (task : Task) → meaning words ≡ Some task → EndsReading task.command o.left o.left_after
@@ -125,15 +125,16 @@ IsToDensify None = ⊥
 IsToDensify (Some task) = task.command ≡ Densify
 
 -- how a run changes the count of its solver
-abbrev pub Counts : List (List ℕ) → Option (List ℕ) → ℕ → ℕ → Status → Type 0
-Counts words left before after Done = (input : List ℕ) → IsInput words left input → Raises words input before after Done
-Counts words left before after Refused =
+abbrev pub CountsPairs : List (List ℕ) → Option (List ℕ) → ℕ → ℕ → Status → Type 0
+CountsPairs words left before after Done = (input : List ℕ) → IsInput words left input
+    → Raises words input before after Done
+CountsPairs words left before after Refused =
     ((input : List ℕ) → IsInput words left input → Raises words input before after Refused)
     × ((IsToDensify (meaning words) → ⊥) → after ≡ before)
-Counts words left before after WriteFault =
+CountsPairs words left before after WriteFault =
     (input : List ℕ) → IsInput words left input → (status : Status) × Raises words input before after status
-Counts words left before after NoMemory = before ≤ after
-Counts words left before after status = after ≡ before
+CountsPairs words left before after NoMemory = before ≤ after
+CountsPairs words left before after status = after ≡ before
 
 -- the workers of a task: those of its option; if it has none, as many as before
 abbrev pub workers_of : Option Task → ℕ → ℕ
@@ -147,6 +148,6 @@ SetsWorkers words before after status = after ≡ workers_of (meaning words) bef
 
 -- the promise of a run on its solver, before and after; it ranges over the bytes left, if the source knows them
 pub record IsWork (words : List (List ℕ)) (left : Option (List ℕ)) (s t : Solver) (status : Status) : Type 0 where
-  pub counts : Counts words left s.solved_pairs t.solved_pairs status
+  pub counts : CountsPairs words left s.solved_pairs t.solved_pairs status
   pub later : s.solved_pairs ≤ t.solved_pairs
   pub workers : SetsWorkers words s.worker_count t.worker_count status

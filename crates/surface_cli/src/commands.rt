@@ -4,7 +4,7 @@ ghost use Rattle.std.specs.Prelude.{◌≡◌, ◌≤◌, ℕ, IfOk, IfSome, Ok,
 ghost use Rattle.command_replies.specs.Reply.{IsWritten, Replies, Reply, counted, text_bytes};
 ghost use Rattle.surface_cli.specs.Commands.{commands, input_limit, rule_of};
 ghost use Rattle.surface_cli.specs.Words.{AreValuesInRange, IsTaskInRange, is_command, meaning_among};
-ghost use Rattle.surface_cli.specs.Run.{IsWithin};
+ghost use Rattle.surface_cli.specs.Run.{IsInputWithin};
 
 use crate::formats::Byu;
 use crate::replies::told;
@@ -115,7 +115,7 @@ fn text_of<P: PairSolver>(
     input: &[u8],
     solver: &mut P,
 ) -> Result<Vec<u8>, Fault>
-    requires within { IsWithin command input.now }
+    requires within { IsInputWithin command input.now }
     requires range { AreValuesInRange command }
     requires other { command ≡ Command.Densify → ⊥ }
     ensures reply { Replies (rule_of command input.now) (P.solved_pairs solver.old) (P.solved_pairs solver.new) result }
@@ -150,7 +150,7 @@ pub(crate) fn answer_to<P: PairSolver>(
     input: &[u8],
     solver: &mut P,
 ) -> Result<Answer, NoMemory>
-    requires within { IsWithin command input.now }
+    requires within { IsInputWithin command input.now }
     requires range { AreValuesInRange command }
     ensures written { IfOk result (λ a.
         (reply : Reply) × (n : ℕ)

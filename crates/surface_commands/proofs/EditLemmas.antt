@@ -20,11 +20,11 @@ use Rattle.section_edits.specs.declared.edit.Edit.{Edit}
 use Rattle.section_edits.specs.declared.edit.EditFault.{EditFault}
 use Rattle.section_edits.specs.declared.edit.EditFault.TheVariants.{EditForm, NoMemory as WantingMemory}
 use Rattle.section_edits.specs.Changes.{changed}
-use Rattle.section_edits.specs.Lines.{ReadsAs, IsLineFault}
+use Rattle.section_edits.specs.Lines.{ReadsAsEdit, IsLineFault}
 use Rattle.section_edits.specs.Edits.{AreApplied, IsApplyFault, IsEdited, IsRefused}
-use Rattle.section_edits.specs.Sessions.{Counts, FaultCount, Held, IsSolved}
+use Rattle.section_edits.specs.Sessions.{CountsNew, FaultCount, Held, IsSolved}
 use Rattle.command_replies.specs.Reply.{Reply, told, refused, fails, goes_on, Replies, counted}
-use Rattle.surface_commands.specs.Edit.{Answer, Editing, IsAnswer, IsEditing, answer_text, answers_text, edit_sections, edits_in, edits_text, solved_for}
+use Rattle.surface_commands.specs.Edit.{LineAnswer, Editing, IsLineAnswer, IsEditing, answer_text, answers_text, edit_sections, edits_in, edits_text, solved_for}
 use Rattle.surface_commands.specs.EditSteps.{HasAnswered, HasEdited, IsApplied, IsTextOfEdits}
 use Rattle.command_replies.proofs.ReplyLemmas.{counted_raised}
 
@@ -45,7 +45,7 @@ counted_twice (suc m) (suc n) a b c d e =
     e ∙ sum ∙ sym (counted_some (suc m + suc n) a (omega arith))
 
 -- an edit with an answer is applied, if it is not refused
-applied_more : (S T U : Parts) (e : Option Edit) (es : List (Option Edit)) (a : Answer) → IsAnswer S e a T → AreApplied T (edits_in es) U → AreApplied S (edits_in (e ∷ es)) U
+applied_more : (S T U : Parts) (e : Option Edit) (es : List (Option Edit)) (a : LineAnswer) → IsLineAnswer S e a T → AreApplied T (edits_in es) U → AreApplied S (edits_in (e ∷ es)) U
 applied_more S T U None es (Ok done) h more = absurd h
 applied_more S T U None es (Err fault) h more = subst (λ (V : Parts). AreApplied V (edits_in es) U) h.1 more
 applied_more S T U (Some e) es (Ok done) h more = (T, inl h.0, more)
@@ -122,10 +122,10 @@ left_count S ps old new fault (inl same) = inr same
 left_count S ps old new fault (inr wanting) = inl wanting.0
 
 -- an answer for which memory ran out
-abbrev err : EditFault → Answer
+abbrev err : EditFault → LineAnswer
 err fault = Err fault
 
-abbrev pub IsWanting : Answer → Type 0
+abbrev pub IsWanting : LineAnswer → Type 0
 IsWanting a = a ≡ Err WantingMemory
 
 -- a line that stands for no edit, or `NoMemory`
@@ -134,14 +134,14 @@ no_line line S count EditForm h = inr (None, h, (refl, refl), refl)
 no_line line S count WantingMemory h = inl refl
 no_line line S count fault h = absurd h
 
-refused_line : (words : Line) (e : Edit) (S T : Parts) (ps : List PairParts) (before after : ℕ) (fault : EditFault) → ReadsAs words e → IsRefused S e fault → T ≡ S → FaultCount (changed S e) ps before after (fault ≡ WantingMemory)
+refused_line : (words : Line) (e : Edit) (S T : Parts) (ps : List PairParts) (before after : ℕ) (fault : EditFault) → ReadsAsEdit words e → IsRefused S e fault → T ≡ S → FaultCount (changed S e) ps before after (fault ≡ WantingMemory)
     → IsWanting (Err fault) ⊎ IsApplied S words (Err fault) T before after
 refused_line ws e S T ps before after fault reads by_fault same (inl count) = inr (Some e, reads, (by_fault, same), count)
 refused_line ws e S T ps before after fault reads by_fault same (inr wanting) = inl (ap err wanting.0)
 
 -- what a session returns for an edit of a line
-pub session_answers : (ws : Line) (e : Edit) (s t : Held) (before after : ℕ) (r : Answer) → ReadsAs ws e → IsSolved s → before ≤ after → OnOk r (IsEdited s.sections e t.sections) → OnOk r (IsSolved t)
-    → IfOk r (Counts s.pairs t.pairs) → IfOk r (λ d. after ≡ raised_by d.solved before) → IfErr r (IsApplyFault s.sections e) → OnErr r (t ≡ s) → IfErr r (λ f. FaultCount (changed s.sections e) s.pairs before after (f ≡ WantingMemory))
+pub session_answers : (ws : Line) (e : Edit) (s t : Held) (before after : ℕ) (r : LineAnswer) → ReadsAsEdit ws e → IsSolved s → before ≤ after → OnOk r (IsEdited s.sections e t.sections) → OnOk r (IsSolved t)
+    → IfOk r (CountsNew s.pairs t.pairs) → IfOk r (λ d. after ≡ raised_by d.solved before) → IfErr r (IsApplyFault s.sections e) → OnErr r (t ≡ s) → IfErr r (λ f. FaultCount (changed s.sections e) s.pairs before after (f ≡ WantingMemory))
     → IsWanting r ⊎ IsApplied s.sections ws r t.sections before after
 session_answers ws e s t before after (Ok d) reads was later edited solved counts raised fault same count =
     inr (Some e, reads, (edited, record { before = s.pairs; pairs_before = was.pairs; after = t.pairs; pairs_after = solved.pairs; counts = counts }), counted_raised d.solved before after raised later)
@@ -150,14 +150,14 @@ session_answers ws e s t before after (Err f) reads was later edited solved coun
     refused_line ws e s.sections t.sections s.pairs before after f reads by_fault (ap (λ (h : Held). h.sections) same) count
 
 -- a line is answered once its answer is written, since `NoMemory` has no words
-pub answer_written : {U E : Type 0} (S T : Parts) (line : Line) (number : ℕ) (old new : List ℕ) (before after : ℕ) (a : Answer) (r : Result U E) → IsWanting a ⊎ IsApplied S line a T before after
+pub answer_written : {U E : Type 0} (S T : Parts) (line : Line) (number : ℕ) (old new : List ℕ) (before after : ℕ) (a : LineAnswer) (r : Result U E) → IsWanting a ⊎ IsApplied S line a T before after
     → OnOk r (new ≡ old ++ answer_text number a) → OnOk r (IsWanting a → ⊥) → OnOk r (HasAnswered S line number old new T before after)
 answer_written S T line number old new before after a (Ok u) (inl memory) text is_told = absurd (is_told memory)
 answer_written S T line number old new before after a (Ok u) (inr is) text is_told = record { answer = a; applied = is; text = text }
 answer_written S T line number old new before after a (Err f) is text is_told = tt
 
 -- the whole text, piece by piece
-pub text_is : (format : Surface → List ℕ) (answers : List Answer) (b : Built) (count : ℕ) (t u x : List ℕ) → t ≡ answers_text 1 answers → count ≡ length answers → u ≡ t ++ (codes "EDITS " ++ (decimal count ++ codes "\n"))
+pub text_is : (format : Surface → List ℕ) (answers : List LineAnswer) (b : Built) (count : ℕ) (t u x : List ℕ) → t ≡ answers_text 1 answers → count ≡ length answers → u ≡ t ++ (codes "EDITS " ++ (decimal count ++ codes "\n"))
     → x ≡ u ++ format (surface_of b.mesh) → x ≡ edits_text format answers b
 text_is format answers b count t u x first number eu ex =
     let last = format (surface_of b.mesh) in

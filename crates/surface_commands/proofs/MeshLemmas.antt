@@ -7,8 +7,8 @@ use Rattle.std.proofs.lemmas.Slice.Zip.{all_zipped_more}
 use Rattle.fku_types.specs.declared.points.Point.{Point}
 use Rattle.fku_types.specs.declared.fault.Fault.{Fault}
 use Rattle.fku_types.specs.declared.fault.Fault.TheVariants.{ByuForm}
-use Rattle.byu_text.specs.Answers.{IsByuFault, IsFaultOf, IsMeshMemory}
-use Rattle.byu_text.specs.Reading.{ReadsAs}
+use Rattle.byu_text.specs.Answers.{IsByuFault, IsMeshFault, IsMeshMemory}
+use Rattle.byu_text.specs.Reading.{ReadsAsMesh}
 use Rattle.byu_text.proofs.Fronts.{begins_from_reads}
 use Rattle.triangle_meshes.specs.Meshes.{Surface}
 use Rattle.section_pairs.specs.SectionFaults.{OrNoMemory}
@@ -18,16 +18,16 @@ use Rattle.triangle_meshes.specs.Volumes.{part_volume}
 use Rattle.mesh_measures.specs.Moments.{moment}
 use Rattle.mesh_measures.specs.declared.enclosing.Solid.{Solid}
 use Rattle.mesh_measures.specs.declared.measuring.Measures.{Measures}
-use Rattle.surface_commands.specs.Crossings.{cross_line, cross_lines, crossed_text, parts_text}
-use Rattle.surface_commands.specs.Measure.{IsSolid, measured_text, parts_text as measured_parts}
+use Rattle.surface_commands.specs.Crossings.{cross_line, cross_lines, crossed_text, crossing_parts_text}
+use Rattle.surface_commands.specs.Measure.{IsSolid, measured_text, crossing_parts_text as measured_parts}
 
 -- the fault of a text is reported as it is, or memory ran out
-pub byu_fault : (text : List ℕ) (f : Fault) → IsFaultOf text f → OrNoMemory (IsByuFault text) f
+pub byu_fault : (text : List ℕ) (f : Fault) → IsMeshFault text f → OrNoMemory (IsByuFault text) f
 byu_fault text (ByuForm n) h = inr (n, h, refl)
 byu_fault text f h = inl h
 
 -- the text is a mesh's, so memory may run out after its first line
-pub at_mesh : {T : Type 0} (text : List ℕ) (m : Surface) (r : Result T Fault) → ReadsAs text m → IfErr r (IsMeshMemory text)
+pub at_mesh : {T : Type 0} (text : List ℕ) (m : Surface) (r : Result T Fault) → ReadsAsMesh text m → IfErr r (IsMeshMemory text)
 at_mesh text m (Ok v) h = tt
 at_mesh text m (Err fault) h = λ _. (m, begins_from_reads text 1 m h)
 
@@ -61,15 +61,15 @@ measures_more parts i d text more whole l m inv =
 -- the crossings of one more part
 pub crossed_more : (vertices : List Point) (parts : List (List (List ℕ))) (i first n : ℕ) (text more whole : List ℕ) → i < length parts → n ≡ length (get_or parts i [])
     → more ≡ text ++ crossed_text (i + 1) first (crossing_counts (part_corners vertices (get_or parts i []))) (crossing_pairs (part_corners vertices (get_or parts i [])))
-    → text ++ parts_text vertices (i + 1) first (drop i parts) ≡ whole → more ++ parts_text vertices (i + 1 + 1) (first + n) (drop (i + 1) parts) ≡ whole
+    → text ++ crossing_parts_text vertices (i + 1) first (drop i parts) ≡ whole → more ++ crossing_parts_text vertices (i + 1 + 1) (first + n) (drop (i + 1) parts) ≡ whole
 crossed_more vertices parts i first n text more whole l e m inv =
     let part : List (List ℕ) = get_or parts i [] in
     let rest : List (List (List ℕ)) = drop (i + 1) parts in
     let here : List ℕ = crossed_text (i + 1) first (crossing_counts (part_corners vertices part)) (crossing_pairs (part_corners vertices part)) in
-    ap (λ (t : List ℕ). t ++ parts_text vertices (i + 1 + 1) (first + n) rest) m
-    ∙ append_assoc text here (parts_text vertices (i + 1 + 1) (first + n) rest)
-    ∙ ap (λ (k : ℕ). text ++ (here ++ parts_text vertices (i + 1 + 1) (first + k) rest)) e
-    ∙ ap (λ (ps : List (List (List ℕ))). text ++ parts_text vertices (i + 1) first ps) (sym (drop_more parts i [] l)) ∙ inv
+    ap (λ (t : List ℕ). t ++ crossing_parts_text vertices (i + 1 + 1) (first + n) rest) m
+    ∙ append_assoc text here (crossing_parts_text vertices (i + 1 + 1) (first + n) rest)
+    ∙ ap (λ (k : ℕ). text ++ (here ++ crossing_parts_text vertices (i + 1 + 1) (first + k) rest)) e
+    ∙ ap (λ (ps : List (List (List ℕ))). text ++ crossing_parts_text vertices (i + 1) first ps) (sym (drop_more parts i [] l)) ∙ inv
 
 -- each triangle has a number of others
 pub counts_long : (vertices : List Point) (part : List (List ℕ)) → length (crossing_counts (part_corners vertices part)) ≡ length part

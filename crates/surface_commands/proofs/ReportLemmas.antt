@@ -9,7 +9,7 @@ use Rattle.section_core.specs.Views.{contour_parts, section_parts}
 use Rattle.triangle_meshes.specs.Meshes.{surface_of}
 use Rattle.surface_core.specs.declared.surfaces.Built.{Built}
 use Rattle.triangle_meshes.specs.Volumes.{six_volume}
-use Rattle.surface_commands.specs.Report.{sizes_text, measures_text, report_text}
+use Rattle.surface_commands.specs.Report.{sizes_text, four_measures, report_text}
 
 -- the contours, section by section
 pub contours_counted : (ss : List Section) → length (contours_of (map section_parts ss)) ≡ sum_by (λ (s : Section). length s.contours.items) ss
@@ -25,8 +25,8 @@ four_sizes s s' c c' v v' t t' es ec ev et =
 -- the counts of the code are those of the definition
 pub reported : (all : List SectionParts) (b : Built) (sections contours vertices triangles : ℕ) (volume : ℤ) → sections ≡ length all → contours ≡ length (contours_of all)
     → vertices ≡ length (surface_of b.mesh).vertices → triangles ≡ sum_by length (surface_of b.mesh).parts → volume ≡ six_volume (surface_of b.mesh) origin
-    → sizes_text sections contours vertices triangles ++ measures_text b.folded b.pairs b.cost volume ≡ report_text all b
+    → sizes_text sections contours vertices triangles ++ four_measures b.folded b.pairs b.cost volume ≡ report_text all b
 reported all b sections contours vertices triangles volume es ec ev et eo =
     ap₂ (λ (x y : List ℕ). x ++ y)
     (four_sizes sections (length all) contours (length (contours_of all)) vertices (length (surface_of b.mesh).vertices) triangles (sum_by length (surface_of b.mesh).parts) es ec ev et)
-    (ap (λ (v : ℤ). measures_text b.folded b.pairs b.cost v) eo)
+    (ap (λ (v : ℤ). four_measures b.folded b.pairs b.cost v) eo)

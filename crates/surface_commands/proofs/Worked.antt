@@ -3,16 +3,16 @@ use Rattle.std.proofs.Common.{◌≡◌, pos, negsuc, List, [], ◌∷◌, drop,
 use Rattle.std.specs.Prelude.{codes, sum_by}
 use Rattle.std.specs.Fmt.{digits}
 use Rattle.section_core.specs.Parts.{Parts}
-use Rattle.surface_commands.specs.Report.{sizes_text, measures_text, demo_line}
+use Rattle.surface_commands.specs.Report.{sizes_text, four_measures, demo_line}
 use Rattle.surface_commands.specs.Slice.{height_text, loop_text}
 use Rattle.text_io.specs.WordLists.{Kept, first_number}
 use Rattle.fku_types.specs.declared.fault.Fault.TheVariants.{Limit, SelfCrossing}
 use Rattle.fku_types.specs.declared.fault.LimitName.TheVariants.{Edits}
 use Rattle.section_edits.specs.declared.edit.EditFault.TheVariants.{EditForm, Found, NoVertex}
-use Rattle.surface_commands.specs.Edit.{Answer, AreAnswers, AreFew, IsTooMany, answers_text, edits_in, solved_for}
+use Rattle.surface_commands.specs.Edit.{LineAnswer, AreAnswers, AreFew, IsTooMany, answers_text, edits_in, solved_for}
 use Rattle.surface_commands.specs.Count.{has_text}
 
-report_of_two_squares : (sizes_text 2 2 8 12 ≡ codes "SECTIONS 2\nCONTOURS 2\nVERTICES 8\nTRIANGLES 12\n") × (measures_text 0 1 (pos 1200) (pos 6000) ≡ codes "FOLDED 0\nPAIRS 1\nCOST 1200\nSIXVOLUME 6000\n")
+report_of_two_squares : (sizes_text 2 2 8 12 ≡ codes "SECTIONS 2\nCONTOURS 2\nVERTICES 8\nTRIANGLES 12\n") × (four_measures 0 1 (pos 1200) (pos 6000) ≡ codes "FOLDED 0\nPAIRS 1\nCOST 1200\nSIXVOLUME 6000\n")
 unfolding digits
 report_of_two_squares = (refl, refl)
 
@@ -24,7 +24,7 @@ loops_at_a_height : (height_text (negsuc 4) (pos 10) 1 ≡ codes "SLICE -5 DEN 1
 unfolding digits
 loops_at_a_height = (refl, refl)
 
-abbrev answers : List Answer
+abbrev answers : List LineAnswer
 answers = Ok (record { solved = 1; reused = 0 }) ∷ Err (Found (SelfCrossing (codes "b") 1 3)) ∷ Err EditForm ∷ Err (NoVertex (codes "b") 4) ∷ []
 
 answers_to_edits : answers_text 1 answers ≡ codes "EDIT 1 DONE solved 1 reused 0\nEDIT 2 REFUSED 8 SELF CROSSING b 1 3\nEDIT 3 REFUSED 13 EDIT FORM\nEDIT 4 REFUSED 15 NO VERTEX b 4\n"

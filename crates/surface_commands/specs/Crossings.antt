@@ -25,15 +25,16 @@ crossed_text number polygon counts pairs =
     ++ (codes "CROSSINGS " ++ (decimal pairs ++ codes "\n")))))
 
 -- the lines of parts, of which the first and its first polygon have these numbers
-abbrev pub parts_text : List Point → ℕ → ℕ → List (List (List ℕ)) → List ℕ
-parts_text vertices number polygon [] = []
-parts_text vertices number polygon (part ∷ more) =
+abbrev pub crossing_parts_text : List Point → ℕ → ℕ → List (List (List ℕ)) → List ℕ
+crossing_parts_text vertices number polygon [] = []
+crossing_parts_text vertices number polygon (part ∷ more) =
     crossed_text number polygon (crossing_counts (part_corners vertices part))
-    (crossing_pairs (part_corners vertices part)) ++ parts_text vertices (number + 1) (polygon + length part) more
+    (crossing_pairs (part_corners vertices part))
+    ++ crossing_parts_text vertices (number + 1) (polygon + length part) more
 
 -- the number of parts, and the lines of each; parts and polygons are counted from 1 through the mesh
 abbrev pub crossings_text : Surface → List ℕ
-crossings_text m = parts_line (length m.parts) ++ parts_text m.vertices 1 1 m.parts
+crossings_text m = parts_line (length m.parts) ++ crossing_parts_text m.vertices 1 1 m.parts
 
 -- the reply for bytes: the crossings of the mesh whose text they are; no pair is counted
 abbrev pub crossings : List ℕ → Reply → Type 0

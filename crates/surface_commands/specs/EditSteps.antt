@@ -7,17 +7,17 @@ use Rattle.triangle_meshes.specs.Meshes.{Surface}
 use Rattle.command_replies.specs.Reply.{counted}
 use Rattle.surface_core.specs.declared.surfaces.Built.{Built}
 use Rattle.command_replies.specs.Stages.{IsSurfaceOfOne}
-use Rattle.surface_commands.specs.Edit.{Answer, Editing, IsAnswer, IsEditing, StandsFor, answer_text, answers_text, edits_text, solved_for}
+use Rattle.surface_commands.specs.Edit.{LineAnswer, Editing, IsLineAnswer, IsEditing, StandsFor, answer_text, answers_text, edits_text, solved_for}
 
 -- a line was answered, and a solver's count is that after its new pairs
-abbrev pub IsApplied : Parts → Line → Answer → Parts → ℕ → ℕ → Type 0
+abbrev pub IsApplied : Parts → Line → LineAnswer → Parts → ℕ → ℕ → Type 0
 IsApplied S line a T before after =
-    (e : Option Edit) × StandsFor line e × IsAnswer S e a T × (after ≡ counted (solved_for a) before)
+    (e : Option Edit) × StandsFor line e × IsLineAnswer S e a T × (after ≡ counted (solved_for a) before)
 
 -- and its answer was appended to a text, under its number
 pub record HasAnswered (S : Parts) (line : Line) (number : ℕ) (old new : List ℕ) (T : Parts) (before after : ℕ) : Type 0
   where
-    pub answer : Answer
+    pub answer : LineAnswer
     pub applied : IsApplied S line answer T before after
     pub text : new ≡ old ++ answer_text number answer
 

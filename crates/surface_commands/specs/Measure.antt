@@ -41,18 +41,18 @@ pub record AreMeasures (points : List Point) (triangles : List (List ℕ)) (m : 
   pub solid : IfSome m.solid (IsSolid points triangles)
 
 -- three coordinates
-abbrev pub point_text : Point → List ℕ
-point_text p = signed_decimal p.x ++ (codes " " ++ (signed_decimal p.y ++ (codes " " ++ signed_decimal p.z)))
+abbrev pub corner_text : Point → List ℕ
+corner_text p = signed_decimal p.x ++ (codes " " ++ (signed_decimal p.y ++ (codes " " ++ signed_decimal p.z)))
 
 -- the number of a part, and its counts
-abbrev pub head_text : ℕ → ℕ → ℕ → List ℕ
-head_text number vertices polygons =
+abbrev pub part_head_text : ℕ → ℕ → ℕ → List ℕ
+part_head_text number vertices polygons =
     codes "PART " ++ (decimal number
     ++ (codes "\nVERTICES " ++ (decimal vertices ++ (codes "\nPOLYGONS " ++ (decimal polygons ++ codes "\n")))))
 
 -- its box
 abbrev pub box_text : Bounds → List ℕ
-box_text b = codes "BOX " ++ (point_text b.least ++ (codes " " ++ (point_text b.greatest ++ codes "\n")))
+box_text b = codes "BOX " ++ (corner_text b.least ++ (codes " " ++ (corner_text b.greatest ++ codes "\n")))
 
 -- the two bounds on 2,000 times its area
 abbrev pub area_text : Area → List ℕ
@@ -73,7 +73,7 @@ solid_text (Some s) =
 -- the lines of the part of this number
 abbrev pub measured_text : ℕ → Measures → List ℕ
 measured_text number m =
-    head_text number m.vertices m.polygons
+    part_head_text number m.vertices m.polygons
     ++ (box_text m.bounds ++ (area_text m.area ++ (sides_text m.sides ++ solid_text m.solid)))
 
 -- the lines of parts, of which the first has this number

@@ -18,8 +18,8 @@ sizes_text sections contours vertices triangles =
     ++ (codes "\nVERTICES " ++ (decimal vertices ++ (codes "\nTRIANGLES " ++ (decimal triangles ++ codes "\n")))))))
 
 -- four lines of measures
-abbrev pub measures_text : ℕ → ℕ → ℤ → ℤ → List ℕ
-measures_text folded pairs cost volume =
+abbrev pub four_measures : ℕ → ℕ → ℤ → ℤ → List ℕ
+four_measures folded pairs cost volume =
     codes "FOLDED " ++ (decimal folded ++ (codes "\nPAIRS " ++ (decimal pairs
     ++ (codes "\nCOST " ++ (signed_decimal cost ++ (codes "\nSIXVOLUME " ++ (signed_decimal volume ++ codes "\n")))))))
 
@@ -28,7 +28,7 @@ abbrev pub report_text : List SectionParts → Built → List ℕ
 report_text sections b =
     sizes_text (length sections) (length (contours_of sections)) (length (surface_of b.mesh).vertices)
     (sum_by length (surface_of b.mesh).parts)
-    ++ measures_text b.folded b.pairs b.cost (six_volume (surface_of b.mesh) origin)
+    ++ four_measures b.folded b.pairs b.cost (six_volume (surface_of b.mesh) origin)
 
 -- the line before the report of a made stack
 abbrev pub demo_line : ℕ → ℕ → ℕ → List ℕ

@@ -33,10 +33,10 @@ abbrev pub slice_text : ℤ → SliceLoops → List ℕ
 slice_text z s = height_text z s.den (length s.loops.items) ++ flat_map (λ v. loop_text v.items) s.loops.items
 
 -- A height gives no slice: it is outside each object, or it is that of a section of one.
-pub data IsHeightFault (F : FileParts) (z : ℤ) : Fault → Type 0 where
-  outside : All (λ (S : Parts). IsOutside S z) (objects_in F) → IsHeightFault F z (Outside z)
+pub data IsHeightFaultOfAll (F : FileParts) (z : ℤ) : Fault → Type 0 where
+  outside : All (λ (S : Parts). IsOutside S z) (objects_in F) → IsHeightFaultOfAll F z (Outside z)
   on_section : (k : ℕ) (S : Parts) → slice_get (objects_in F) k ≡ Some S → IsOnSection S z
-      → IsHeightFault F z (OnSection z)
+      → IsHeightFaultOfAll F z (OnSection z)
 
 -- the slices of objects at a height that is not outside all of them
 pub record AreCuts (F : FileParts) (z : ℤ) (cuts : List (Option SliceLoops)) : Type 0 where
@@ -55,5 +55,5 @@ cuts_text v z (o ∷ objects) (cut ∷ cuts) = object_cut v z o cut ++ cuts_text
 
 -- the reply for objects: their loops at the height, one for each counted pair
 abbrev pub slice : ℤ → FileParts → Reply → Type 0
-slice z F = on_pairs F (λ pss. Then (IsHeightFault F z) (AreCuts F z)
+slice z F = on_pairs F (λ pss. Then (IsHeightFaultOfAll F z) (AreCuts F z)
     (λ cuts. Tells (cuts_text F.version z F.objects cuts) (sum_by loop_count cuts)))

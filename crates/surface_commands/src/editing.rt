@@ -230,7 +230,8 @@ fn edits_text<P: PairSolver, W: SurfaceWriter>(
     requires few { length input.now ≤ MAX_CHECK_BYTES }
     requires passed { tail.passed ≤ tail.at }
     ensures text { IfOk result (λ v.
-        IsTextOfEdits W.format session.sections (lines_of (kept_from (tail.passed + 1) (lines (drop tail.at input.now))))
+        IsTextOfEdits W.format session.sections
+        (lines_of (kept_from (tail.passed + 1) (lines (drop tail.at input.now))))
         v.items (P.solved_pairs solver.old) (P.solved_pairs solver.new)) }
     ensures later { P.solved_pairs solver.old ≤ P.solved_pairs solver.new }
     ensures same_workers { P.worker_count solver.new ≡ P.worker_count solver.old }

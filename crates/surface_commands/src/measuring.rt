@@ -4,7 +4,7 @@ ghost use Rattle.std.specs.List.{AllZip};
 ghost use Rattle.triangle_meshes.specs.Meshes.{surface_of, IsValid};
 ghost use Rattle.byu_text.specs.Answers.{IsMeshMemory};
 ghost use Rattle.command_replies.specs.Reply.{Replies};
-ghost use Rattle.surface_commands.specs.Measure.{AreMeasures, area_text, box_text, head_text, measure, measured_text, measures_text, point_text, sides_text, solid_text};
+ghost use Rattle.surface_commands.specs.Measure.{AreMeasures, area_text, box_text, part_head_text, measure, measured_text, measures_text, corner_text, sides_text, solid_text};
 
 use crate::counting::put_parts;
 use byu_text::read_byu;
@@ -21,13 +21,13 @@ fn head_text(
     vertices: u32,
     polygons: u32,
 ) -> Result<String, AllocError>
-    ensures { IfOk result (λ s. string_bytes s ≡ head_text number vertices polygons) }
+    ensures { IfOk result (λ s. string_bytes s ≡ part_head_text number vertices polygons) }
 {
     format!(in alloc; "PART {number}\nVERTICES {vertices}\nPOLYGONS {polygons}\n")
 }
 
 fn point_text(alloc: Global, point: &Point) -> Result<String, AllocError>
-    ensures { IfOk result (λ s. string_bytes s ≡ point_text point.now) }
+    ensures { IfOk result (λ s. string_bytes s ≡ corner_text point.now) }
 {
     let (x, y, z) = (point.x, point.y, point.z);
     format!(in alloc; "{x} {y} {z}")

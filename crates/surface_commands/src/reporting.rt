@@ -8,7 +8,7 @@ ghost use Rattle.section_core.specs.declared.parts.Version.TheVariants as Versio
 ghost use Rattle.section_text.specs.Fronts.{IsReadMemory};
 ghost use Rattle.command_replies.specs.Reply.{Replies};
 ghost use Rattle.command_replies.specs.Stages.{on_objects};
-ghost use Rattle.surface_commands.specs.Report.{sizes_text, measures_text, report, report_text, demo_line, demo_report};
+ghost use Rattle.surface_commands.specs.Report.{sizes_text, four_measures, report, report_text, demo_line, demo_report};
 
 use command_replies::objects_in;
 use demo_stack::demo_sections;
@@ -53,7 +53,7 @@ fn measures_text(
     cost: i128,
     volume: i128,
 ) -> Result<String, AllocError>
-    ensures { IfOk result (λ s. string_bytes s ≡ measures_text folded pairs cost volume) }
+    ensures { IfOk result (λ s. string_bytes s ≡ four_measures folded pairs cost volume) }
 {
     format!(in alloc; "FOLDED {folded}\nPAIRS {pairs}\nCOST {cost}\nSIXVOLUME {volume}\n")
 }

@@ -9,7 +9,7 @@ ghost use Rattle.section_core.specs.declared.parts.Version.TheVariants as Versio
 ghost use Rattle.section_text.specs.Fronts.{IsReadMemory};
 ghost use Rattle.command_replies.specs.Reply.{Replies};
 ghost use Rattle.command_replies.specs.Stages.{on_objects};
-ghost use Rattle.surface_commands.specs.Slice.{IsHeightFault, cut_text, cuts_text, loop_text, height_text, object_cut, slice, slice_text};
+ghost use Rattle.surface_commands.specs.Slice.{IsHeightFaultOfAll, cut_text, cuts_text, loop_text, height_text, object_cut, slice, slice_text};
 ghost use Rattle.surface_commands.specs.SliceSteps.{FitsHeight, is_outside};
 
 use command_replies::{objects_in, put, put_count, put_number, put_object};
@@ -85,7 +85,7 @@ fn is_outside(fault: &Fault) -> bool
 fn test_heights(objects: &Objects, z: i32) -> Result<(), Fault>
     requires { IsCoordinate z }
     ensures fits { OnOk result (FitsHeight objects.now z) }
-    ensures fault { IfErr result (IsHeightFault objects.now z) }
+    ensures fault { IfErr result (IsHeightFaultOfAll objects.now z) }
 {
     let mut is_cut = false;
     for object in objects.items() {

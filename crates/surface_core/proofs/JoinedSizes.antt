@@ -17,7 +17,7 @@ use Rattle.fku_types.proofs.ListLaws.{all_join, all_weaker}
 use Rattle.triangle_meshes.specs.Meshes.{Surface, IsValid, surface_of}
 use Rattle.triangle_meshes.specs.Joined.{raised_triangle, raised_part, raised, joined_parts, joined}
 use Rattle.surface_core.specs.declared.surfaces.Built.{Built}
-use Rattle.surface_core.specs.Objects.{surfaces_of, vertex_count, contour_count, pair_cost_limit, IsBounded}
+use Rattle.surface_core.specs.Objects.{surfaces_of, object_vertices, object_contours, pair_cost_limit, IsBounded}
 use Rattle.surface_core.proofs.ObjectFacts.{AreFewObjects}
 
 -- ---- ids
@@ -121,11 +121,11 @@ IsCheap b = (pos 0 ≤ℤ b.cost) × (b.cost ≤ℤ pos (b.pairs * pair_cost_lim
 
 pub record AreBounded (objects : List Parts) (each : List Built) : Type 0 where
   pub count : length each ≡ length objects
-  pub vertices : sum_by (λ (s : Surface). length s.vertices) (surfaces_of each) ≡ sum_by vertex_count objects
+  pub vertices : sum_by (λ (s : Surface). length s.vertices) (surfaces_of each) ≡ sum_by object_vertices objects
   pub parts : sum_by (λ (s : Surface). length s.parts) (surfaces_of each) ≡ length objects
-  pub triangles : sum_by (λ (s : Surface). sum_by length s.parts) (surfaces_of each) ≤ 2 * sum_by vertex_count objects + 12 * sum_by contour_count objects
-  pub folded : sum_by (λ (b : Built). b.folded) each ≤ 2 * sum_by vertex_count objects + 12 * sum_by contour_count objects
-  pub pairs : sum_by (λ (b : Built). b.pairs) each ≤ sum_by contour_count objects
+  pub triangles : sum_by (λ (s : Surface). sum_by length s.parts) (surfaces_of each) ≤ 2 * sum_by object_vertices objects + 12 * sum_by object_contours objects
+  pub folded : sum_by (λ (b : Built). b.folded) each ≤ 2 * sum_by object_vertices objects + 12 * sum_by object_contours objects
+  pub pairs : sum_by (λ (b : Built). b.pairs) each ≤ sum_by object_contours objects
   pub cheap : AllByRecursion IsCheap each
 
 pub are_bounded : (objects : List Parts) (each : List Built) → AllZip IsBounded objects each → AreBounded objects each
@@ -138,8 +138,8 @@ are_bounded (S ∷ objects) (b ∷ each) h =
     let s : Surface = surface_of b.mesh in
     let ss : List Surface = surfaces_of each in
     let part : length s.parts ≡ length b.mesh.parts.items = length-map b.mesh.parts.items _ in
-    let vs = sum_by-cons vertex_count S objects in
-    let cs = sum_by-cons contour_count S objects in
+    let vs = sum_by-cons object_vertices S objects in
+    let cs = sum_by-cons object_contours S objects in
     record {
       count = omega (arith, more.count);
       vertices = omega (arith, more.vertices, here.vertices, vs, sum_by-cons (λ (s : Surface). length s.vertices) s ss);

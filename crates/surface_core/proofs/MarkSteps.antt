@@ -8,7 +8,7 @@ use Rattle.correspondence.specs.Places.{has}
 use Rattle.section_pairs.specs.Rings.{pick}
 use Rattle.surface_core.specs.Surfaces.{others}
 use Rattle.section_pairs.proofs.SectionData.{all_left, all_right}
-use Rattle.surface_core.specs.Marks.{AreMarks, unmarked}
+use Rattle.surface_core.specs.Marks.{AreSetAt, unmarked}
 
 pub filter_same : (f g : ℕ → Bool) (a n : ℕ) → ((k : ℕ) → a ≤ k → k < a + n → f k ≡ g k) → filter f (range_with_len a n) ≡ filter g (range_with_len a n)
 filter_same f g a zero h = refl
@@ -17,7 +17,7 @@ filter_same f g a (suc n) h =
     ∙ ap (λ (l : List ℕ). cond (g a) (a ∷ l) l) (filter_same f g (a + 1) n (λ k p q. h k (omega arith) (omega arith)))
 
 -- the rings without a mark are those at other places
-pub unmarked_is : (rings : List RingView) (marks : List Bool) (n : ℕ) (places : List ℕ) → n ≡ length rings → AreMarks marks n places → unmarked rings marks ≡ others rings places
+pub unmarked_is : (rings : List RingView) (marks : List Bool) (n : ℕ) (places : List ℕ) → n ≡ length rings → AreSetAt marks n places → unmarked rings marks ≡ others rings places
 unmarked_is rings marks n places e h =
     ap (pick rings) (filter_same (λ k. not (get_or marks k false)) (λ k. not (has k places)) 0 (length rings) (λ k a b. ap not (h.set k (omega (arith, e)))))
 
@@ -28,7 +28,7 @@ none_unset test a (suc n) h =
     ap (λ (b : Bool). cond (not b) (a ∷ filter (λ k. not (test k)) (range_with_len (a + 1) n)) (filter (λ k. not (test k)) (range_with_len (a + 1) n))) (h a (omega arith) (omega arith))
     ∙ none_unset test (a + 1) n (λ k p q. h k (omega arith) (omega arith))
 
-pub none_open : (rings : List RingView) (marks : List Bool) (n : ℕ) (places : List ℕ) → n ≡ length rings → AreMarks marks n places → list_all (λ set. set) marks ≡ true → others rings places ≡ []
+pub none_open : (rings : List RingView) (marks : List Bool) (n : ℕ) (places : List ℕ) → n ≡ length rings → AreSetAt marks n places → list_all (λ set. set) marks ≡ true → others rings places ≡ []
 none_open rings marks n places e h all =
     sym (unmarked_is rings marks n places e h)
     ∙ ap (pick rings) (none_unset (λ k. get_or marks k false) 0 (length rings) (λ k a b. AllPass-from_list_all (λ set. set) marks all k false (omega (arith, h.count, e))))

@@ -12,17 +12,17 @@ use Rattle.fku_types.specs.declared.rules.PairRule.{PairRule}
 use Rattle.section_core.specs.declared.objects.Object.{Object}
 use Rattle.section_core.specs.declared.parts.Version.{Version}
 use Rattle.section_core.specs.declared.parts.Version.TheVariants.{One, Two}
-use Rattle.section_core.specs.Parts.{CostParts, Parts, ContourParts, SectionParts, ObjectParts, FileParts, IsContour, AreObjects, contours_of, all_sections, asked}
+use Rattle.section_core.specs.Parts.{CostParts, Parts, ContourParts, SectionParts, ObjectParts, FileParts, IsCountedContour, AreObjects, contours_of, all_sections, asked}
 use Rattle.section_core.specs.Laws.{counts, told_names}
 use Rattle.section_core.specs.Reading.{has_contour}
 use Rattle.section_core.specs.Accepted.{IsAcceptedFile}
 use Rattle.section_core.specs.Objects.{object_parts, AreUnder}
 use Rattle.fku_types.proofs.ListLaws.{all_rest, all_front}
-use Rattle.correspondence.specs.Outlines.{point_at}
+use Rattle.correspondence.specs.Outlines.{spot_point}
 use Rattle.section_pairs.specs.Rings.{vertices_in}
 use Rattle.section_pairs.specs.Pairs.{PairParts}
 use Rattle.section_pairs.specs.SectionFaults.{ArePairs}
-use Rattle.surface_core.specs.Objects.{alone, objects_in, sections_in, AreAllPairs, numbered, vertex_count, contour_count}
+use Rattle.surface_core.specs.Objects.{alone, objects_in, sections_in, AreAllPairs, numbered, object_vertices, object_contours}
 use Rattle.surface_core.proofs.SectionFacts.{same_counts}
 use Rattle.surface_core.proofs.Totals.{pairs_within}
 
@@ -49,26 +49,26 @@ sum_over g F [] = refl
 sum_over g F (o ∷ os) =
     omega (arith, sum_over g F os, sum_by-cons (λ (S : Parts). sum_by g S.sections) (alone F o) (map (alone F) os), sum_by-append g o.sections (all_sections os))
 
-points_asked : (z : ℤ) (cs : List ContourParts) → AllByRecursion IsContour cs → sum_by length (map (λ c. map (point_at z) c.points) cs) ≡ sum_by asked (map (λ c. c.count) cs)
+points_asked : (z : ℤ) (cs : List ContourParts) → AllByRecursion IsCountedContour cs → sum_by length (map (λ c. map (spot_point z) c.points) cs) ≡ sum_by asked (map (λ c. c.count) cs)
 points_asked z [] h = refl
 points_asked z (c ∷ cs) h =
     omega (
       arith,
       points_asked z cs h.1,
       h.0.1,
-      length-map c.points (point_at z),
-      sum_by-cons length (map (point_at z) c.points) (map (λ (c : ContourParts). map (point_at z) c.points) cs),
+      length-map c.points (spot_point z),
+      sum_by-cons length (map (spot_point z) c.points) (map (λ (c : ContourParts). map (spot_point z) c.points) cs),
       sum_by-cons asked c.count (map (λ (c : ContourParts). c.count) cs),
     )
 
-sections_asked : (ss : List SectionParts) → AllByRecursion IsContour (contours_of ss) → sum_by vertices_in ss ≡ sum_by asked (counts ss)
+sections_asked : (ss : List SectionParts) → AllByRecursion IsCountedContour (contours_of ss) → sum_by vertices_in ss ≡ sum_by asked (counts ss)
 sections_asked [] h = refl
 sections_asked (s ∷ ss) h =
     let count : ContourParts → ℤ = λ c. c.count in
     omega (
       arith,
-      sections_asked ss (all_rest IsContour s.contours (contours_of ss) h),
-      points_asked s.z s.contours (all_front IsContour s.contours (contours_of ss) h),
+      sections_asked ss (all_rest IsCountedContour s.contours (contours_of ss) h),
+      points_asked s.z s.contours (all_front IsCountedContour s.contours (contours_of ss) h),
       ap (sum_by asked) (map-append count s.contours (contours_of ss)),
       sum_by-append asked (map count s.contours) (counts ss),
       sum_by-cons vertices_in s ss,
@@ -83,8 +83,8 @@ objects_few Two os h k = omega (arith, k, length-map os (λ (o : ObjectParts). o
 pub record AreFewObjects (all : List Parts) : Type 0 where
   pub some : 1 ≤ length all
   pub objects : length all ≤ MAX_OBJECTS
-  pub vertices : sum_by vertex_count all ≤ MAX_VERTICES
-  pub contours : sum_by contour_count all ≤ MAX_CONTOURS
+  pub vertices : sum_by object_vertices all ≤ MAX_VERTICES
+  pub contours : sum_by object_contours all ≤ MAX_CONTOURS
 
 pub few_objects : (F : FileParts) → IsAcceptedFile F → AreFewObjects (objects_in F)
 few_objects F a =
@@ -94,7 +94,7 @@ few_objects F a =
     let filled = and_parts (nat_lt 0 (length os)) (list_all has_contour os) a.filled in
     let t : nat_lt 0 (length os) ≡ true = filled.0 in
     let some : 0 < length os = grind (arith, nat_tests) in
-    let contours : sum_by contour_count (objects_in F) ≤ MAX_CONTOURS = omega (
+    let contours : sum_by object_contours (objects_in F) ≤ MAX_CONTOURS = omega (
       arith,
       sum_over (λ s. length s.contours) F os,
       length-flat_map (λ (s : SectionParts). s.contours) all,
@@ -109,12 +109,12 @@ few_objects F a =
     }
 
 -- ---- pairs
-pairs_numbered : (objects : List Parts) (pss : List (List PairParts)) → AllZip ArePairs objects pss → length (numbered pss) ≤ sum_by contour_count objects
+pairs_numbered : (objects : List Parts) (pss : List (List PairParts)) → AllZip ArePairs objects pss → length (numbered pss) ≤ sum_by object_contours objects
 pairs_numbered [] [] h = omega arith
 pairs_numbered [] (ps ∷ pss) h = absurd h
 pairs_numbered (S ∷ objects) [] h = absurd h
 pairs_numbered (S ∷ objects) (ps ∷ pss) h =
-    omega (arith, pairs_numbered objects pss h.1, pairs_within S ps h.0, same_counts S.sections, length-append ps (numbered pss), sum_by-cons contour_count S objects)
+    omega (arith, pairs_numbered objects pss h.1, pairs_within S ps h.0, same_counts S.sections, length-append ps (numbered pss), sum_by-cons object_contours S objects)
 
 pub few_pairs_in : (F : FileParts) (pss : List (List PairParts)) → IsAcceptedFile F → AllZip ArePairs (objects_in F) pss → length (numbered pss) ≤ MAX_PAIRS
 few_pairs_in F pss a h = omega (arith, pairs_numbered (objects_in F) pss h, (few_objects F a).contours)

@@ -23,7 +23,7 @@ use Rattle.section_core.specs.ValidSections.{contours_in, vertices, section_of, 
 use Rattle.correspondence.specs.Contours.{contour_at, points_of, point_lists}
 use Rattle.correspondence.specs.Nesting.{is_turned, turned, ring_from, ring_at, oriented, depth, first_id}
 use Rattle.correspondence.proofs.Nested.{length-turned}
-use Rattle.correspondence.specs.Outlines.{layer, layer_at, section_at, point_at}
+use Rattle.correspondence.specs.Outlines.{layer, layer_at, section_at, spot_point}
 use Rattle.ring_polygons.proofs.BridgeLaws.{IsRingView}
 use Rattle.ring_polygons.proofs.Joining.{views}
 use Rattle.section_pairs.specs.Rings.{rings_at, vertices_in, first_vertex, AreRingsOf}
@@ -239,7 +239,7 @@ whole_size S = omega (arith, sizes_sum S (range_with_len 0 (length S.sections)),
 pub same_counts : (sections : List SectionParts) → sum_by contour_count sections ≡ sum_by (λ s. length s.contours) sections
 same_counts [] = refl
 same_counts (s ∷ sections) =
-    omega (arith, same_counts sections, length-map s.contours (λ c. map (point_at s.z) c.points), sum_by-cons contour_count s sections, sum_by-cons (λ (x : SectionParts). length x.contours) s sections)
+    omega (arith, same_counts sections, length-map s.contours (λ c. map (spot_point s.z) c.points), sum_by-cons contour_count s sections, sum_by-cons (λ (x : SectionParts). length x.contours) s sections)
 
 pub all_counts : (S : Parts) → sum_by (λ j. length (rings_at S j)) (range_with_len 0 (length S.sections)) ≡ sum_by contour_count S.sections
 all_counts S = counts_sum S (range_with_len 0 (length S.sections)) ∙ sum_sections S contour_count

@@ -10,7 +10,7 @@ use Rattle.ring_polygons.specs.declared.faces.Face.TheVariants.{Below, Above}
 use Rattle.ring_polygons.specs.declared.capping.CapList.{CapList}
 use Rattle.section_pairs.specs.Pairs.{PairParts}
 use Rattle.surface_core.specs.Surfaces.{caps_on, open_on, strips_in, points_in, Capping, capped_triangles, capped_folded}
-use Rattle.surface_core.specs.Objects.{AreListsOf, vertex_count, contour_count}
+use Rattle.surface_core.specs.Objects.{AreListsOf, object_vertices, object_contours}
 
 -- the caps of a section with these rings: its bottom caps, then its top caps
 abbrev pub both_caps : List RingView → List PairParts → ℕ → List (List ℕ)
@@ -22,16 +22,16 @@ pub record AreCapsOf (C : Capping) (S : Parts) (ps : List PairParts) (s : ℕ) (
   pub folded : c.folded ≡ C.folded S ps s
 
 -- with the tiles of these solutions the caps make a closed surface of the sections' vertices, no larger than one may be
-pub record IsWhole (C : Capping) (S : Parts) (ps : List PairParts) (xs : List Solution) : Type 0 where
+pub record IsWholeSurface (C : Capping) (S : Parts) (ps : List PairParts) (xs : List Solution) : Type 0 where
   pub closed : IsClosed (capped_triangles C S ps xs)
   pub known : All (All (λ id. id < length (flat_map points_in S.sections))) (capped_triangles C S ps xs)
   pub some : 1 ≤ length (capped_triangles C S ps xs)
-  pub few : length (capped_triangles C S ps xs) ≤ 2 * vertex_count S + 12 * contour_count S
-  pub few_folded : capped_folded C S ps ≤ 2 * vertex_count S + 12 * contour_count S
+  pub few : length (capped_triangles C S ps xs) ≤ 2 * object_vertices S + 12 * object_contours S
+  pub few_folded : capped_folded C S ps ≤ 2 * object_vertices S + 12 * object_contours S
 
 -- the caps close what the pairs leave open, whatever their solutions are
 abbrev pub DoClose : Capping → Parts → List PairParts → Type 0
-DoClose C S ps = (xs : List Solution) → SolvesEach (strips_in ps) xs → IsWhole C S ps xs
+DoClose C S ps = (xs : List Solution) → SolvesEach (strips_in ps) xs → IsWholeSurface C S ps xs
 
 -- lists have the caps of all sections, and these close
 pub record AreCaps (C : Capping) (S : Parts) (ps : List PairParts) (caps : List CapList) : Type 0 where

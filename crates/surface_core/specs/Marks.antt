@@ -6,7 +6,7 @@ use Rattle.correspondence.specs.Places.{has}
 use Rattle.section_pairs.specs.Rings.{pick}
 
 -- n marks, set exactly at some places
-pub record AreMarks (marks : List Bool) (n : ℕ) (places : List ℕ) : Type 0 where
+pub record AreSetAt (marks : List Bool) (n : ℕ) (places : List ℕ) : Type 0 where
   pub count : length marks ≡ n
   pub set : (k : ℕ) → k < n → slice_index_or marks k false ≡ has k places
 

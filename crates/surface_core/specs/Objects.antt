@@ -42,7 +42,8 @@ abbrev pub pair_lists : List (Vec GapPair Global) → List (List PairParts)
 pair_lists lists = map (λ (v : Vec GapPair Global). map pair_parts v.items) lists
 
 -- what holds of each object, of its pairs and of its list, if there is one list for each object
-abbrev pub AreListsOf : {X : Type 0} → (Parts → List PairParts → List X → Type 0) → List Parts → List (List PairParts) → List (Vec X Global) → Type 0
+abbrev pub AreListsOf : {X : Type 0} → (Parts → List PairParts → List X → Type 0) → List Parts → List (List PairParts)
+    → List (Vec X Global) → Type 0
 AreListsOf R [] [] [] = ⊤
 AreListsOf R (S ∷ objects) (ps ∷ pss) (xs ∷ lists) = R S ps xs.items × AreListsOf R objects pss lists
 AreListsOf R _ _ _ = ⊥
@@ -95,11 +96,11 @@ abbrev pub AreBuilt : FileParts → Built → Type 0
 AreBuilt F b = AreBuiltBy IsBuilt F b
 
 -- how many vertices and contours an object has
-abbrev pub vertex_count : Parts → ℕ
-vertex_count S = sum_by vertices_in S.sections
+abbrev pub object_vertices : Parts → ℕ
+object_vertices S = sum_by vertices_in S.sections
 
-abbrev pub contour_count : Parts → ℕ
-contour_count S = sum_by (λ s. length s.contours) S.sections
+abbrev pub object_contours : Parts → ℕ
+object_contours S = sum_by (λ s. length s.contours) S.sections
 
 -- the largest cost of a pair
 abbrev pub pair_cost_limit : ℕ
@@ -108,10 +109,10 @@ pair_cost_limit = MAX_STEPS * step_cost_limit
 -- a surface of an object is at most this large: one part, with two triangles for a vertex and twelve for a contour, and
 -- a pair for a contour
 pub record IsBounded (S : Parts) (b : Built) : Type 0 where
-  pub vertices : length b.mesh.vertices.items ≡ vertex_count S
+  pub vertices : length b.mesh.vertices.items ≡ object_vertices S
   pub one_part : length b.mesh.parts.items ≡ 1
-  pub triangles : sum_by length (surface_of b.mesh).parts ≤ 2 * vertex_count S + 12 * contour_count S
-  pub folded : b.folded ≤ 2 * vertex_count S + 12 * contour_count S
-  pub pairs : b.pairs ≤ contour_count S
+  pub triangles : sum_by length (surface_of b.mesh).parts ≤ 2 * object_vertices S + 12 * object_contours S
+  pub folded : b.folded ≤ 2 * object_vertices S + 12 * object_contours S
+  pub pairs : b.pairs ≤ object_contours S
   pub some_cost : pos 0 ≤ℤ b.cost
   pub few_cost : b.cost ≤ℤ pos (b.pairs * pair_cost_limit)

@@ -106,9 +106,10 @@ abbrev pub points_in : SectionParts → List Point
 points_in s = flat_map (λ (outline : List Point). outline) (layer s).outlines
 
 -- all points in file order are the vertices, and the one part has the triangles of the sections
-pub record IsSurfaceWith (C : Capping) (S : Parts) (ps : List PairParts) (xs : List Solution) (m : Surface) : Type 0 where
-  pub vertices : m.vertices ≡ flat_map points_in S.sections
-  pub one_part : m.parts ≡ capped_triangles C S ps xs ∷ []
+pub record IsSurfaceWith (C : Capping) (S : Parts) (ps : List PairParts) (xs : List Solution) (m : Surface) : Type 0
+  where
+    pub vertices : m.vertices ≡ flat_map points_in S.sections
+    pub one_part : m.parts ≡ capped_triangles C S ps xs ∷ []
 
 abbrev pub IsSurface : Parts → List PairParts → List Solution → Surface → Type 0
 IsSurface S ps xs m = IsSurfaceWith by_contour S ps xs m

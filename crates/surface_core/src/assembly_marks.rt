@@ -3,7 +3,7 @@ ghost use Rattle.std.specs.Prelude.{◌≡◌, ◌<◌, All, IfOk, length, map};
 ghost use Rattle.std.specs.List.{list_all};
 ghost use Rattle.section_pairs.specs.Pairs.{pair_parts};
 ghost use Rattle.surface_core.specs.Surfaces.{joins, joined_on};
-ghost use Rattle.surface_core.specs.Marks.{Marks, AreMarks};
+ghost use Rattle.surface_core.specs.Marks.{Marks, AreSetAt};
 
 use fku_types::NoMemory;
 use ring_polygons::Face;
@@ -49,7 +49,7 @@ pub fn marks_on(
     count: usize,
 ) -> Result<Vec<bool>, NoMemory>
     requires { All (λ k. k < count) (joined_on face (map pair_parts pairs.now) section) }
-    ensures { IfOk result (λ v. AreMarks v.items count (joined_on face (map pair_parts pairs.now) section)) }
+    ensures { IfOk result (λ v. AreSetAt v.items count (joined_on face (map pair_parts pairs.now) section)) }
 {
     let mut marks = vec![in alloc; false; count]?;
     for pair in pairs {

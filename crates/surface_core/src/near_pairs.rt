@@ -5,7 +5,7 @@ ghost use Rattle.pair_pool.specs.Solvers.{SolvesEach};
 ghost use Rattle.section_pairs.specs.declared.gap_pairs.GapPair.{GapPair as HeldPair};
 ghost use Rattle.section_pairs.specs.Pairs.{pair_parts};
 ghost use Rattle.surface_core.specs.Surfaces.{joined_on, strip_triangles, strips_in};
-ghost use Rattle.surface_core.specs.Marks.{AreMarks};
+ghost use Rattle.surface_core.specs.Marks.{AreSetAt};
 
 use crate::assembly::add_strips;
 use crate::assembly_marks::marks_on;
@@ -50,7 +50,7 @@ pub fn marks_near(
 ) -> Result<Vec<bool>, NoMemory>
     requires sorted { IsNonDecreasingBy (λ (p : HeldPair). p.gap) pairs.now }
     requires joined { All (λ k. k < count) (joined_on face (map pair_parts pairs.now) section) }
-    ensures { IfOk result (λ v. AreMarks v.items count (joined_on face (map pair_parts pairs.now) section)) }
+    ensures { IfOk result (λ v. AreSetAt v.items count (joined_on face (map pair_parts pairs.now) section)) }
 {
     let number = u64::from(section);
     let (begin, end) = places(pairs, number.saturating_sub(1), number + 1);

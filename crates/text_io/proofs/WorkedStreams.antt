@@ -3,10 +3,10 @@ use Rattle.std.proofs.Common.{◌≡◌, ◌-◌, ◌^◌, [], ◌∷◌, length
 use Rattle.text_io.specs.declared.outside.Took.TheVariants as took
 use Rattle.text_io.specs.declared.outside.Gave.TheVariants as gave
 use Rattle.text_io.specs.Outside.{Rose, Takes, Gives}
-use Rattle.text_io.specs.Memory.{raised}
+use Rattle.text_io.specs.Memory.{raised_count}
 
 -- an unchanged count has not risen, except at its last value
-count_of_faults : (raised 0 ≡ 1) × Rose 0 1 × (Rose 0 0 → ⊥) × Rose (2 ^ 64 - 1) (2 ^ 64 - 1)
+count_of_faults : (raised_count 0 ≡ 1) × Rose 0 1 × (Rose 0 0 → ⊥) × Rose (2 ^ 64 - 1) (2 ^ 64 - 1)
 count_of_faults = (refl, omega arith, λ h. omega (arith, h), omega arith)
 
 -- a read gives at least one byte, and the bytes at the front; nothing is left only at the end

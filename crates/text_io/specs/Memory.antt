@@ -29,12 +29,12 @@ pub record Store : Type 0 where
   pub faults : ℕ
 
 -- a count that stops at its last value
-abbrev pub raised : ℕ → ℕ
-raised n = min (n + 1) (2 ^ 64 - 1)
+abbrev pub raised_count : ℕ → ℕ
+raised_count n = min (n + 1) (2 ^ 64 - 1)
 
 -- the next call is one of those that fail
 abbrev pub is_listed : List ℕ → ℕ → Bool
-is_listed failing calls = list_any (λ k. k == raised calls) failing
+is_listed failing calls = list_any (λ k. k == raised_count calls) failing
 
 -- how many bytes a read moves
 abbrev pub read_count : Supply → ℕ → ℕ

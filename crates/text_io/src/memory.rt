@@ -1,7 +1,7 @@
 //! Sources and sinks in memory.
 ghost use Rattle.std.specs.Prelude.{◌≡◌, ◌<◌, ◌≤◌, ◌-◌, ◌||◌, min, false, [], length, take, Some, None, IfOk};
 ghost use Rattle.text_io.specs.Outside.{Rose, Takes, Gives};
-ghost use Rattle.text_io.specs.Memory.{raised, is_listed, read_failed, write_failed, read_count, write_count, Supplies, Stores};
+ghost use Rattle.text_io.specs.Memory.{raised_count, is_listed, read_failed, write_failed, read_count, write_count, Supplies, Stores};
 ghost use Rattle.std.specs.Prelude.{◌==◌, if◌then◌else◌};
 
 use crate::outside::{Gave, Sink, Source, Took};
@@ -77,11 +77,12 @@ impl Source for MemSource {
         ensures later { self.old.faults ≤ self.new.faults }
         ensures cause { result ≡ Took.Failed → Rose self.old.faults self.new.faults }
         ensures listed { read_failed result ≡ is_listed self.old.failing self.old.calls }
-        ensures faults { self.new.faults ≡ (if read_failed result then raised self.old.faults else self.old.faults) }
+        ensures faults { self.new.faults ≡ (if read_failed result then raised_count self.old.faults else
+            self.old.faults) }
         ensures count { Supplies result (read_count self.old (length buf.old)) }
         ensures rest { (self.new.per_call ≡ self.old.per_call)
             × (self.new.failing ≡ self.old.failing)
-            × (self.new.calls ≡ raised self.old.calls) }
+            × (self.new.calls ≡ raised_count self.old.calls) }
     {
         self.calls = self.calls.saturating_add(1);
         if self.failing.contains(&self.calls) {
@@ -181,12 +182,13 @@ impl Sink for MemSink {
         ensures cause { result ≡ Gave.Failed → Rose self.old.faults self.new.faults }
         ensures listed { write_failed result
             ≡ (is_listed self.old.failing self.old.calls || self.old.room == length self.old.held) }
-        ensures faults { self.new.faults ≡ (if write_failed result then raised self.old.faults else self.old.faults) }
+        ensures faults { self.new.faults ≡ (if write_failed result then raised_count self.old.faults else
+            self.old.faults) }
         ensures count { Stores result (write_count self.old (length piece.now)) }
         ensures rest { (self.new.room ≡ self.old.room)
             × (self.new.per_call ≡ self.old.per_call)
             × (self.new.failing ≡ self.old.failing)
-            × (self.new.calls ≡ raised self.old.calls) }
+            × (self.new.calls ≡ raised_count self.old.calls) }
     {
         self.calls = self.calls.saturating_add(1);
         let left = self.room - self.bytes.len();

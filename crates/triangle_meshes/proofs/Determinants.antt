@@ -2,7 +2,7 @@
 use Rattle.std.proofs.Common.{◌≡◌, ℤ, pos, ◌+ℤ◌, ◌-ℤ◌, ◌*ℤ◌, sym, ap, ap₂, ◌∙◌, arith}
 use Rattle.std.proofs.lemmas.Int.{ints}
 use Rattle.fku_types.specs.declared.points.Point.{Point}
-use Rattle.plane_geom.specs.Planes.{cross}
+use Rattle.plane_geom.specs.Planes.{cross_product}
 use Rattle.plane_geom.proofs.Vectors.{sub-mul, mul-sub, mul-comm, mul-assoc}
 use Rattle.triangle_meshes.specs.Volumes.{seen_from, determinant}
 use Rattle.ring_polygons.proofs.SignedSums.{Turns}
@@ -14,7 +14,7 @@ three_turned a b c = mul-comm a (b *ℤ c) ∙ sym (mul-assoc b c a)
 -- the determinant by its first point
 first_from : (o p q r : Point) → determinant (seen_from o p) q r ≡ determinant p q r -ℤ determinant o q r
 first_from o p q r =
-    omega (arith, ints, sub-mul p.x o.x (cross q.y q.z r.y r.z), sub-mul p.y o.y (cross q.z q.x r.z r.x), sub-mul p.z o.z (cross q.x q.y r.x r.y))
+    omega (arith, ints, sub-mul p.x o.x (cross_product q.y q.z r.y r.z), sub-mul p.y o.y (cross_product q.z q.x r.z r.x), sub-mul p.z o.z (cross_product q.x q.y r.x r.y))
 
 -- the points moved by one place
 pub moved_on : (p q r : Point) → determinant p q r ≡ determinant q r p

@@ -2,7 +2,7 @@
 use Rattle.std.specs.Prelude.{ℕ, List, ℤ, ◌+ℤ◌, ◌-ℤ◌, ◌*ℤ◌, slice_index, slice_index_or}
 use Rattle.fku_types.specs.declared.points.Point.{Point}
 use Rattle.plane_geom.specs.Rings.{origin}
-use Rattle.plane_geom.specs.Planes.{cross, signed_sum}
+use Rattle.plane_geom.specs.Planes.{cross_product, signed_sum}
 use Rattle.triangle_meshes.specs.Meshes.{Surface}
 
 -- a point as seen from another: the differences of their coordinates
@@ -11,7 +11,8 @@ seen_from o p = record { x = p.x -ℤ o.x; y = p.y -ℤ o.y; z = p.z -ℤ o.z }
 
 -- the determinant of three points: the first one times the cross product of the others
 abbrev pub determinant : Point → Point → Point → ℤ
-determinant p q r = (p.x *ℤ cross q.y q.z r.y r.z) +ℤ (p.y *ℤ cross q.z q.x r.z r.x) +ℤ (p.z *ℤ cross q.x q.y r.x r.y)
+determinant p q r = (p.x *ℤ cross_product q.y q.z r.y r.z) +ℤ (p.y *ℤ cross_product q.z q.x r.z r.x) +ℤ
+    (p.z *ℤ cross_product q.x q.y r.x r.y)
 
 -- the vertex of an id, as seen from a point
 abbrev pub vertex : List Point → Point → ℕ → Point

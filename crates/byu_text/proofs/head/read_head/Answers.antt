@@ -2,12 +2,12 @@ use Rattle.std.proofs.Common.{arith, ◌≡◌, ◌<◌, ◌*◌, ◌^◌, ◌++
 use Rattle.std.specs.List.{flat_map}
 use Rattle.std.proofs.lemmas.List.{drop_all}
 use Rattle.byu_text.specs.Fields.{number_field}
-use Rattle.byu_text.specs.Pieces.{Counts, IsHead, head_line}
+use Rattle.byu_text.specs.Pieces.{Counts, AreMeshCounts, mesh_head_line}
 use Rattle.byu_text.proofs.LineForms.{head_width, head_numbers, head_small}
 use Rattle.byu_text.proofs.LineFields.{FieldsAt, body_width, same_there, fields_told, fields_written, number_told}
 use Rattle.byu_text.proofs.head.read_head.Goals as goal
 
-there : (x : Counts) (text line more : List ℕ) → IsHead x → length line ≡ 32 → text ≡ (line ++ 10 ∷ []) ++ drop 33 text → text ≡ head_line x ++ more → FieldsAt line 0 (head_numbers x)
+there : (x : Counts) (text line more : List ℕ) → AreMeshCounts x → length line ≡ 32 → text ≡ (line ++ 10 ∷ []) ++ drop 33 text → text ≡ mesh_head_line x ++ more → FieldsAt line 0 (head_numbers x)
 there x text line more i l e f = fields_told (head_numbers x) line 0 (head_small x i) (same_there text line (flat_map number_field (head_numbers x)) more 0 33 32 l e (head_width x i) f)
 
 -- the numbers in the fields
@@ -17,7 +17,7 @@ record AreOf (x : Counts) (a b d m : ℕ) : Type 0 where
   polygons : d ≡ x.polygons
   entries : m ≡ 3 * x.polygons
 
-are : (x : Counts) (line : List ℕ) (a b d m : ℕ) → IsHead x → FieldsAt line 0 (head_numbers x) → (a < 10 ^ 8) × (take 8 line ≡ number_field (pos a)) → (b < 10 ^ 8) × (take 8 (drop 8 line) ≡ number_field (pos b)) → (d < 10 ^ 8) × (take 8 (drop 16 line) ≡ number_field (pos d)) → (m < 10 ^ 8) × (take 8 (drop 24 line) ≡ number_field (pos m)) → AreOf x a b d m
+are : (x : Counts) (line : List ℕ) (a b d m : ℕ) → AreMeshCounts x → FieldsAt line 0 (head_numbers x) → (a < 10 ^ 8) × (take 8 line ≡ number_field (pos a)) → (b < 10 ^ 8) × (take 8 (drop 8 line) ≡ number_field (pos b)) → (d < 10 ^ 8) × (take 8 (drop 16 line) ≡ number_field (pos d)) → (m < 10 ^ 8) × (take 8 (drop 24 line) ≡ number_field (pos m)) → AreOf x a b d m
 are x line a b d m i f p q r s =
     let few = i.few_parts in
     let vertices = i.few_vertices in
@@ -65,7 +65,7 @@ returns-then-not-is_head c x more i e =
     let r = are x line c.in_ok-parts.field-0 c.in_ok-vertices.field-0 c.in_ok-polygons.field-0 c.in_ok-entries.field-0 i f c.in_ok-parts.ensures c.in_ok-vertices.ensures c.in_ok-polygons.ensures c.in_ok-entries.ensures in
     let same = same_counts c.in_ok-parts.field-0 c.in_ok-vertices.field-0 c.in_ok-polygons.field-0 x r.parts r.vertices r.polygons in
     absurd (
-    let t : c.is_head.result ≡ true = c.is_head.ensures.1 (subst IsHead (sym same) i) in
+    let t : c.is_head.result ≡ true = c.is_head.ensures.1 (subst AreMeshCounts (sym same) i) in
     let g : c.is_head.result ≡ false = c.if-not-is_head.true in cc)
 
 pub returns-then-entries-polygons : goal.returns-then-entries-polygons

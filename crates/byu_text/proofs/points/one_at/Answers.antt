@@ -4,13 +4,13 @@ use Rattle.std.proofs.lemmas.List.{append-nil}
 use Rattle.std.proofs.lemmas.List.Elements.{All-nil, All-cons}
 use Rattle.fku_types.specs.declared.points.Point.{Point}
 use Rattle.fku_types.specs.Points.{IsInRange}
-use Rattle.byu_text.specs.Fields.{point_fields, point_line}
+use Rattle.byu_text.specs.Fields.{point_fields, coordinates_line}
 use Rattle.byu_text.specs.Stages.{AreNext}
 use Rattle.byu_text.proofs.FieldBytes.{point_line_width}
 use Rattle.byu_text.proofs.LineFields.{body_width, same_there, one_of}
 use Rattle.byu_text.proofs.points.one_at.Goals as goal
 
-width : (ps : List Point) → AreNext 1 ps → length (point_line ps) ≡ 36 + 1
+width : (ps : List Point) → AreNext 1 ps → length (coordinates_line ps) ≡ 36 + 1
 width ps a = omega (arith, point_line_width ps a.range, a.long)
 
 pub returns-in_err-line : goal.returns-in_err-line

@@ -4,13 +4,13 @@ use Rattle.std.proofs.lemmas.List.{length-take-le}
 use Rattle.std.proofs.lemmas.List.Elements.{All-nil, All-cons}
 use Rattle.fku_types.specs.declared.points.Point.{Point}
 use Rattle.fku_types.specs.Points.{IsInRange}
-use Rattle.byu_text.specs.Fields.{point_fields, point_line}
+use Rattle.byu_text.specs.Fields.{point_fields, coordinates_line}
 use Rattle.byu_text.specs.Stages.{AreNext}
 use Rattle.byu_text.proofs.FieldBytes.{point_line_width}
 use Rattle.byu_text.proofs.LineFields.{body_width, same_there, two_of, two_told, two_written}
 use Rattle.byu_text.proofs.points.two_at.Goals as goal
 
-width : (ps : List Point) → AreNext 2 ps → length (point_line ps) ≡ 72 + 1
+width : (ps : List Point) → AreNext 2 ps → length (coordinates_line ps) ≡ 72 + 1
 width ps a = omega (arith, point_line_width ps a.range, a.long)
 
 -- the two points of the line at that place
@@ -22,7 +22,7 @@ record There (ps : List Point) (line : List ℕ) : Type 0 where
   a : take 36 line ≡ point_fields first
   b : take 36 (drop 36 line) ≡ point_fields second
 
-there : (ps : List Point) (text line more : List ℕ) (at : ℕ) → AreNext 2 ps → length line ≡ 72 → drop at text ≡ (line ++ 10 ∷ []) ++ drop (at + 73) text → drop at text ≡ point_line ps ++ more → There ps line
+there : (ps : List Point) (text line more : List ℕ) (at : ℕ) → AreNext 2 ps → length line ≡ 72 → drop at text ≡ (line ++ 10 ∷ []) ++ drop (at + 73) text → drop at text ≡ coordinates_line ps ++ more → There ps line
 there ps text line more at a l e f =
     let r = two_of ps a.long in
     let range : All IsInRange (r.first ∷ r.second ∷ []) = subst (All IsInRange) r.is a.range in

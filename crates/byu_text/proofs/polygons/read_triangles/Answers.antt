@@ -2,8 +2,8 @@ use Rattle.std.proofs.Common.{arith, ◌≡◌, ◌<◌, ◌+◌, ◌*◌, ◌++
 use Rattle.std.specs.List.{concat}
 use Rattle.std.proofs.lemmas.List.{length-append}
 use Rattle.byu_text.specs.Byu.{polygon_line}
-use Rattle.byu_text.specs.Reading.{HasFault}
-use Rattle.byu_text.specs.Pieces.{AreTriangles, IsTriangle}
+use Rattle.byu_text.specs.Reading.{HasMeshFault}
+use Rattle.byu_text.specs.Pieces.{AreTriangles, IsKnownTriangle}
 use Rattle.byu_text.specs.Stages.{counts_of, NoneOf, polygons_at}
 use Rattle.byu_text.proofs.Steps.{triangles_more, polygon_lines_more, triangle_fault_at}
 use Rattle.byu_text.proofs.polygons.read_triangles.Goals as goal
@@ -13,8 +13,8 @@ returns-in_default-clause-err c =
     let inv = c.loop-i.invariant in
     let h = counts_of c.args.head in
     let i : ℕ = c.loop-i.i in
-    let none : NoneOf (IsTriangle h) polygon_line (drop (polygons_at h + 25 * i) c.args.text.now) = subst (λ (a : ℕ). NoneOf (IsTriangle h) polygon_line (drop (a + 25 * i) c.args.text.now)) c.polygons_at-start.ensures c.in_default.ensures in
-    subst (λ (k : ℕ). HasFault c.args.text.now (h.parts + k + i + 2)) (sym c.vertex_lines.ensures)
+    let none : NoneOf (IsKnownTriangle h) polygon_line (drop (polygons_at h + 25 * i) c.args.text.now) = subst (λ (a : ℕ). NoneOf (IsKnownTriangle h) polygon_line (drop (a + 25 * i) c.args.text.now)) c.polygons_at-start.ensures c.in_default.ensures in
+    subst (λ (k : ℕ). HasMeshFault c.args.text.now (h.parts + k + i + 2)) (sym c.vertex_lines.ensures)
     (triangle_fault_at c.args.text.now h c.requires.sizes.0 c.requires.points.0 c.loop-i.triangles.items i (polygons_at h + 25 * i) c.requires.head c.requires.sizes.1 c.requires.points.1 inv.are inv.count c.loop-i-test.true inv.lines none)
 
 pub loop-i-preserved : goal.loop-i-preserved

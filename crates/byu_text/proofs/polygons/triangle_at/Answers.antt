@@ -4,14 +4,14 @@ use Rattle.std.proofs.lemmas.List.{drop_all}
 use Rattle.std.proofs.lemmas.List.Elements.{All-nil, All-cons}
 use Rattle.byu_text.specs.Fields.{number_field}
 use Rattle.byu_text.specs.Byu.{vertex_numbers, polygon_line}
-use Rattle.byu_text.specs.Pieces.{Counts, IsHead, IsTriangle}
+use Rattle.byu_text.specs.Pieces.{Counts, AreMeshCounts, IsKnownTriangle}
 use Rattle.byu_text.specs.Stages.{counts_of}
 use Rattle.byu_text.proofs.LineForms.{triangle_width}
 use Rattle.byu_text.proofs.LineFields.{body_width, same_there, fields_written, number_told, id_told, triangle_told, TellsTriangle}
 use Rattle.byu_text.proofs.polygons.triangle_at.Goals as goal
 use Rattle.byu_text.proofs.polygons.triangle_at.Goals.{then-not-is_vertex-via-then-not-is_vertex, then-not-is_vertex-via-else-not-is_vertex+then-not-is_vertex-2, then-not-is_vertex-via-else-not-is_vertex+else-not-is_vertex-2+then-not-is_vertex-3}
 
-there : (h : Counts) (t text line more : List ℕ) (at : ℕ) → IsHead h → IsTriangle h t → length line ≡ 24 → drop at text ≡ (line ++ 10 ∷ []) ++ drop (at + 25) text → drop at text ≡ polygon_line t ++ more → TellsTriangle h t line
+there : (h : Counts) (t text line more : List ℕ) (at : ℕ) → AreMeshCounts h → IsKnownTriangle h t → length line ≡ 24 → drop at text ≡ (line ++ 10 ∷ []) ++ drop (at + 25) text → drop at text ≡ polygon_line t ++ more → TellsTriangle h t line
 there h t text line more at i k l e f = triangle_told h t line i k (same_there text line (flat_map number_field (vertex_numbers t)) more at (at + 25) 24 l e (triangle_width h t i k) f)
 
 pub returns-in_err-line : goal.returns-in_err-line

@@ -7,7 +7,7 @@ use Rattle.fku_types.specs.declared.limits.TheConstants.{MAX_MESH_BYTES}
 use Rattle.fku_types.specs.declared.fault.Fault.{Fault}
 use Rattle.fku_types.specs.declared.fault.Fault.TheVariants.{NoMemory}
 use Rattle.byu_text.specs.Reading.{IsMesh}
-use Rattle.byu_text.specs.Answers.{ReadsBack}
+use Rattle.byu_text.specs.Answers.{ReadsBackMesh}
 use Rattle.byu_text.proofs.Written.{polygons_of, head_of, sizes_of, pieces_of, written}
 use Rattle.byu_text.proofs.PolygonsStuck.{whole_width}
 use Rattle.byu_text.proofs.reading_laws.read_back.Goals as goal
@@ -20,11 +20,11 @@ short s m =
     let polygons = p.head.few_polygons in
     omega (arith, ap length (written s), whole_width (head_of s) (sizes_of s) s.vertices (polygons_of s) p)
 
-back : (s : Surface) (r : Result Mesh Fault) → ReadsBack s r → IfOk r (λ m. surface_of m ≡ s)
+back : (s : Surface) (r : Result Mesh Fault) → ReadsBackMesh s r → IfOk r (λ m. surface_of m ≡ s)
 back s (Ok m) g = g
 back s (Err f) g = tt
 
-lost : (s : Surface) (r : Result Mesh Fault) → ReadsBack s r → IfErr r (λ f. f ≡ NoMemory)
+lost : (s : Surface) (r : Result Mesh Fault) → ReadsBackMesh s r → IfErr r (λ f. f ≡ NoMemory)
 lost s (Ok m) g = tt
 lost s (Err f) g = g
 

@@ -3,7 +3,7 @@ use Rattle.std.specs.List.{flat_map}
 use Rattle.std.proofs.lemmas.List.{length-map, take_all}
 use Rattle.triangle_meshes.specs.Meshes.{triangle_lists, surface_of}
 use Rattle.triangle_meshes.proofs.Parts.{Part, part_read}
-use Rattle.byu_text.specs.Byu.{counts_line, part_lines, vertex_lines, polygon_line}
+use Rattle.byu_text.specs.Byu.{counts_line, part_ranges, vertex_lines, polygon_line}
 use Rattle.byu_text.proofs.TextLaws.{table_long, table_whole, pieces_more, text_made}
 use Rattle.byu_text.proofs.texts.write_byu.Goals as goal
 
@@ -36,8 +36,8 @@ returns c =
     let lists = triangle_lists c.args.mesh.now.parts.items in
     let i = c.loop-part.part-index in
     let done : length lists ≤ i = omega (arith, c.loop-part-test.false, ap length c.deref-part-items.ensures.value, length-map c.args.mesh.now.parts.items (λ (x : Part). x.items)) in
-    let parts = c.in_ok-write_parts.ensures ∙ ap (λ l. c.write_counts.new.text.items ++ part_lines 1 (triangle_lists l)) c.deref.ensures.value in
+    let parts = c.in_ok-write_parts.ensures ∙ ap (λ l. c.write_counts.new.text.items ++ part_ranges 1 (triangle_lists l)) c.deref.ensures.value in
     let vertices = c.in_ok-write_vertices.ensures ∙ ap (λ l. c.write_parts.new.text.items ++ vertex_lines l) c.deref-2.ensures.value in
     let polygons = c.loop-part.invariant ∙ ap (λ l. c.write_vertices.new.text.items ++ flat_map (flat_map polygon_line) l) (take_all i lists done) in
-    text_made (counts_line s) (part_lines 1 lists) (vertex_lines s.vertices) (flat_map (flat_map polygon_line) lists) c.in_ok-text.text.items c.write_counts.new.text.items c.write_parts.new.text.items c.write_vertices.new.text.items c.loop-part.text.items
+    text_made (counts_line s) (part_ranges 1 lists) (vertex_lines s.vertices) (flat_map (flat_map polygon_line) lists) c.in_ok-text.text.items c.write_counts.new.text.items c.write_parts.new.text.items c.write_vertices.new.text.items c.loop-part.text.items
     c.in_ok-text.ensures.items c.in_ok-write_counts.ensures parts vertices polygons

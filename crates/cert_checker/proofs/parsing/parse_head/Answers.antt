@@ -1,6 +1,6 @@
 use Rattle.std.proofs.Common.{[], sym, subst, refl}
 use Rattle.cert_checker.specs.CertTexts.{head_line}
-use Rattle.cert_checker.specs.CertReading.{kept_behind, last_line, IsFaultOf}
+use Rattle.cert_checker.specs.CertReading.{kept_behind, last_line, IsCertificateFault}
 use Rattle.cert_checker.specs.LineSteps.{head_parts}
 use Rattle.cert_checker.proofs.Fronts.{begins_none}
 use Rattle.cert_checker.proofs.NextLines.{short_none, stuck_head}
@@ -11,7 +11,7 @@ pub returns-in_default-clause-fault : goal.returns-in_default-clause-fault
 returns-in_default-clause-fault c =
     let text = c.args.bytes.now in
     let passed = c.args.lines_before in
-    subst (IsFaultOf (kept_behind passed text) (last_line passed text)) (sym c.stopped.ensures) (stop_fault passed text 0 passed [] (none_read passed text) (c.in_default.ensures.none.0 refl) begins_none short_none)
+    subst (IsCertificateFault (kept_behind passed text) (last_line passed text)) (sym c.stopped.ensures) (stop_fault passed text 0 passed [] (none_read passed text) (c.in_default.ensures.none.0 refl) begins_none short_none)
 
 pub returns-in_default-read_head-clause-fault : goal.returns-in_default-read_head-clause-fault
 returns-in_default-read_head-clause-fault c =

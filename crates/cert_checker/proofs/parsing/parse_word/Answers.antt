@@ -4,7 +4,7 @@ use Rattle.std.specs.Global.{Global}
 use Rattle.strip_graph.specs.declared.tilings.Step.{Step}
 use Rattle.text_io.specs.WordLists.{Matches}
 use Rattle.cert_checker.specs.CertTexts.{IsWord, head_line, word_line}
-use Rattle.cert_checker.specs.CertReading.{kept_behind, last_line, IsFaultOf}
+use Rattle.cert_checker.specs.CertReading.{kept_behind, last_line, IsCertificateFault}
 use Rattle.cert_checker.specs.LineSteps.{head_parts}
 use Rattle.cert_checker.proofs.Fronts.{begins_head}
 use Rattle.cert_checker.proofs.NextLines.{short_head, stuck_word}
@@ -16,7 +16,7 @@ returns-in_default-clause-fault c =
     let text = c.args.bytes.now in
     let passed = c.args.lines_before in
     let h = head_parts c.args.head in
-    subst (IsFaultOf (kept_behind passed text) (last_line passed text)) (sym c.stopped.ensures) (stop_fault passed text c.args.place.at c.args.place.number (head_line h ∷ []) c.requires.read (c.in_default.ensures.none.0 refl) (begins_head h c.requires.head) (short_head h))
+    subst (IsCertificateFault (kept_behind passed text) (last_line passed text)) (sym c.stopped.ensures) (stop_fault passed text c.args.place.at c.args.place.number (head_line h ∷ []) c.requires.read (c.in_default.ensures.none.0 refl) (begins_head h c.requires.head) (short_head h))
 
 pub returns-in_default-2-clause-fault : goal.returns-in_default-2-clause-fault
 returns-in_default-2-clause-fault c =

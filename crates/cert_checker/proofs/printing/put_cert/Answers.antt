@@ -3,13 +3,13 @@ use Rattle.std.specs.List.{flat_map}
 use Rattle.std.proofs.lemmas.Result.{on_ok_weaker as on_ok}
 use Rattle.strip_graph.specs.declared.tilings.Step.{Step}
 use Rattle.text_io.specs.WordLists.{line_text}
-use Rattle.cert_checker.specs.CertTexts.{word_line, row_line, rows_in, parts_of}
+use Rattle.cert_checker.specs.CertTexts.{word_line, row_line, rows_in, certificate_parts}
 use Rattle.cert_checker.proofs.PrintedCerts.{text_parts}
 use Rattle.cert_checker.proofs.printing.put_cert.Goals as goal
 
 pub returns : goal.returns
 returns c =
-    let C = parts_of c.args.text.now in
+    let C = certificate_parts c.args.text.now in
     let n1 = c.put_head.new.out.items in
     let n2 = c.put_word.new.out.items in
     let n3 = c.put_rows.new.out.items in

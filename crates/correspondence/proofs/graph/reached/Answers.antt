@@ -1,7 +1,7 @@
 use Rattle.std.proofs.Common.{◌≡◌, ◌∙◌, ◌∷◌, ◌++◌, [], ℕ, true, List, Bool, length, take, drop, sym, ap, subst, arith}
 use Rattle.std.proofs.Math.Seq.{take-append_seam}
 use Rattle.correspondence.specs.Places.{has}
-use Rattle.correspondence.specs.Graphs.{table_of, adjacent, unmarked, Visits}
+use Rattle.correspondence.specs.Graphs.{table_of, adjacent, unmarked_count, Visits}
 use Rattle.correspondence.proofs.Visiting.{Reaching, reaching_begin, reaching_step, reaching_end, has_back, one_has, mark_below}
 use Rattle.std.proofs.lemmas.List.{nil_from_length, length-append}
 use Rattle.correspondence.proofs.Adjacent.{adjacent_bound}
@@ -27,7 +27,7 @@ loop-node-smaller c =
     let visits = subst (λ (m : List Bool). Visits R node (length m) m c.visit.new.marks c.pop.new.self.items c.visit.new.waiting.items) c.deref_mut.ensures.value c.in_ok-visit.ensures in
     let size : length c.visit.new.marks ≡ c.loop-node.marks.len = c.in_ok-visit.ensures.size ∙ c.deref_mut.ensures.len in
     let same = sym (ap (λ (k : ℕ). take k (c.visit.new.marks ++ drop (length c.visit.new.marks) c.loop-node.marks.items)) (sym size) ∙ take-append_seam c.visit.new.marks (drop (length c.visit.new.marks) c.loop-node.marks.items)) in
-    omega (arith, visits.less, ap unmarked same, ap length c.in-Some.ensures.items, length-append {A = ℕ} c.pop.new.self.items (node ∷ []))
+    omega (arith, visits.less, ap unmarked_count same, ap length c.in-Some.ensures.items, length-append {A = ℕ} c.pop.new.self.items (node ∷ []))
 
 pub loop-node-preserved : goal.loop-node-preserved
 loop-node-preserved c =

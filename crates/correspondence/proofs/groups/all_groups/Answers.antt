@@ -2,7 +2,7 @@ use Rattle.std.proofs.Common.{◌≡◌, ◌+◌, ◌*◌, [], ◌∷◌, length
 use Rattle.std.proofs.lemmas.List.{length-map}
 use Rattle.correspondence.specs.declared.groups.TheConstants.{GROUP}
 use Rattle.correspondence.specs.Contours.{points_of}
-use Rattle.correspondence.specs.Groups.{IsGroup}
+use Rattle.correspondence.specs.Groups.{IsBoundedGroup}
 use Rattle.correspondence.proofs.GroupLaws.{placed_more}
 use Rattle.correspondence.proofs.groups.all_groups.Goals as goal
 
@@ -17,7 +17,7 @@ loop-begin-preserved c =
     let begin : group.begin ≡ length before * GROUP = omega (arith, c.at-group.ensures.begin, inv.reached, c.loop-begin-test.true) in
     let longer : length c.push.new.self.items ≡ length before + 1 = ap length more ∙ length-append before (group ∷ []) in
     record {
-      each = placed_more (λ k g. IsGroup contours g) before c.push.new.self.items group more inv.each c.at-group.ensures.group;
+      each = placed_more (λ k g. IsBoundedGroup contours g) before c.push.new.self.items group more inv.each c.at-group.ensures.group;
       begin = placed_more (λ k g. g.begin ≡ k * GROUP) before c.push.new.self.items group more inv.begin begin;
       reached = omega (arith, c.at-group.ensures.group.whole, same, begin, longer);
     }

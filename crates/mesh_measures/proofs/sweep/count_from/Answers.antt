@@ -1,6 +1,6 @@
 use Rattle.std.proofs.Common.{◌+◌, ◌<◌, ◌^◌, List, sym, subst, All, count_by, get_or, slice_index}
 use Rattle.mesh_measures.specs.declared.triangle_boxes.Boxed.{Boxed}
-use Rattle.mesh_measures.specs.TriangleBoxes.{IsBehind, IsSwept, crosses_at}
+use Rattle.mesh_measures.specs.TriangleBoxes.{ComesAfter, IsSwept, crosses_at}
 use Rattle.mesh_measures.proofs.Rests.{rest_is, behind_rest, swept_rest, room_rest}
 use Rattle.mesh_measures.proofs.Whole.{blank}
 use Rattle.mesh_measures.proofs.sweep.count_from.Goals as goal
@@ -9,7 +9,7 @@ pub count_behind-own-requires-clause-behind : goal.count_behind-own-requires-cla
 count_behind-own-requires-clause-behind c =
     let xs = c.args.sorted.now in
     let n = c.args.place in
-    subst (All (IsBehind (get_or xs n blank))) (sym (rest_is xs (n + 1))) (behind_rest xs n blank c.requires.place c.requires.swept)
+    subst (All (ComesAfter (get_or xs n blank))) (sym (rest_is xs (n + 1))) (behind_rest xs n blank c.requires.place c.requires.swept)
 
 pub count_behind-own-requires-clause-swept : goal.count_behind-own-requires-clause-swept
 count_behind-own-requires-clause-swept c =

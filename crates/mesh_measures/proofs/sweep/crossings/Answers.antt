@@ -6,12 +6,12 @@ use Rattle.fku_types.specs.declared.points.Point.{Point}
 use Rattle.std.proofs.lemmas.List.Sorted.{All-permutation}
 use Rattle.mesh_measures.specs.declared.triangle_boxes.Boxed.{Boxed}
 use Rattle.mesh_measures.specs.Crossings.{corners_of, part_corners, crossing_counts, crossing_pairs}
-use Rattle.mesh_measures.specs.TriangleBoxes.{IsBoxed, corners, places, tally}
+use Rattle.mesh_measures.specs.TriangleBoxes.{IsBoxed, boxed_corners, places, tally}
 use Rattle.mesh_measures.proofs.Whole.{Made, as_many_sorted, places_below, tally_fits, counts_are, pairs_are, both_ok}
 use Rattle.mesh_measures.proofs.sweep.crossings.Goals as goal
 
 -- the boxes of the triangles of a part, and the same in the order of the sweep
-made : (vs : List Point) (ts : List (List ℕ)) (boxes sorted : List Boxed) → corners boxes ≡ part_corners vs ts → places boxes ≡ range_with_len 0 (length ts) → IsPermutation boxes sorted → Made (part_corners vs ts) boxes sorted
+made : (vs : List Point) (ts : List (List ℕ)) (boxes sorted : List Boxed) → boxed_corners boxes ≡ part_corners vs ts → places boxes ≡ range_with_len 0 (length ts) → IsPermutation boxes sorted → Made (part_corners vs ts) boxes sorted
 made vs ts boxes sorted e f moved = record { corners = e; places = f ∙ ap (range_with_len 0) (sym (length-map ts (corners_of vs))); moved = moved }
 
 pub counted-requires-clause-boxed : goal.counted-requires-clause-boxed
@@ -49,5 +49,5 @@ returns-clause-pairs c =
     let part = part_corners c.args.vertices.now c.args.triangles.now in
     let sorted = c.swept-sorted.result.items in
     let m = made c.args.vertices.now c.args.triangles.now c.in_ok-boxes.field-0.items c.swept-sorted.result.items c.in_ok-boxes.ensures.corners c.in_ok-boxes.ensures.places c.swept-sorted.ensures.permutation in
-    both_ok c.counted.result (λ r. r.pairs ≡ crossing_pairs (corners c.deref.result.now)) (λ r. r.pairs ≡ crossing_pairs (corners c.deref.result.now)) (λ r. r.pairs ≡ crossing_pairs part) c.counted.ensures.pairs c.counted.ensures.pairs
-    (λ r is _. is ∙ ap (λ (xs : List Boxed). crossing_pairs (corners xs)) c.deref.ensures.value ∙ pairs_are part _ sorted m)
+    both_ok c.counted.result (λ r. r.pairs ≡ crossing_pairs (boxed_corners c.deref.result.now)) (λ r. r.pairs ≡ crossing_pairs (boxed_corners c.deref.result.now)) (λ r. r.pairs ≡ crossing_pairs part) c.counted.ensures.pairs c.counted.ensures.pairs
+    (λ r is _. is ∙ ap (λ (xs : List Boxed). crossing_pairs (boxed_corners xs)) c.deref.ensures.value ∙ pairs_are part _ sorted m)

@@ -2,8 +2,8 @@ use Rattle.std.proofs.Common.{inr, refl, arith, ℕ, ◌+◌, List, map, length,
 use Rattle.text_io.specs.Text.{lines, kept_from, kept_lines}
 use Rattle.section_core.specs.Reading.{HasFileFault}
 use Rattle.section_core.specs.declared.parts.Version.TheVariants.{Two}
-use Rattle.cert_checker.specs.CertTexts.{parts_of}
-use Rattle.cert_checker.specs.CertReading.{IsCertFault, ReadsAs}
+use Rattle.cert_checker.specs.CertTexts.{certificate_parts}
+use Rattle.cert_checker.specs.CertReading.{IsCertFault, ReadsAsCertificate}
 use Rattle.surface_core.specs.Objects.{IsFoundIn}
 use Rattle.section_pairs.specs.Pairs.{PairParts, pair_parts}
 use Rattle.section_pairs.specs.declared.gap_pairs.GapPair.{GapPair}
@@ -50,7 +50,7 @@ returns-in_err-text-clause-reply c n =
     let bad = cert_fault input f.used f.lines fault c.in_ok-front.ensures.found.used c.in_err-text.ensures.fault in
     with_front (verdict last) input n n out.result f c.in_ok-front.ensures.found
     (went_on (IsFoundIn F) (AreNumbered F) (λ ps. on_cert last tail (λ t. on_pair ps t.pair (λ p. TellsVerdict p.strip t))) n n out.result ps c.in_ok-pairs.ensures.pairs
-    (failed (IsCertFault tail last) (λ t. ReadsAs tail (parts_of t)) (λ t. on_pair ps t.pair (λ p. TellsVerdict p.strip t)) n n out.result fault out.ensures.1 (cert_told tail last fault bad) (inr refl) (omega arith)))
+    (failed (IsCertFault tail last) (λ t. ReadsAsCertificate tail (certificate_parts t)) (λ t. on_pair ps t.pair (λ p. TellsVerdict p.strip t)) n n out.result fault out.ensures.1 (cert_told tail last fault bad) (inr refl) (omega arith)))
 
 pub returns-in_err-pair-clause-reply : goal.returns-in_err-pair-clause-reply
 returns-in_err-pair-clause-reply c n =
@@ -66,7 +66,7 @@ returns-in_err-pair-clause-reply c n =
     let none = subst (λ (gs : List GapPair). IsNoPair (map pair_parts gs) t.pair fault) c.deref.ensures.value c.in_err-pair.ensures.fault in
     with_front (verdict last) input n n out.result f c.in_ok-front.ensures.found
     (went_on (IsFoundIn F) (AreNumbered F) (λ ps. on_cert last tail (λ t. on_pair ps t.pair (λ p. TellsVerdict p.strip t))) n n out.result ps c.in_ok-pairs.ensures.pairs
-    (went_on (IsCertFault tail last) (λ t. ReadsAs tail (parts_of t)) (λ t. on_pair ps t.pair (λ p. TellsVerdict p.strip t)) n n out.result t (cert_read input f.used f.lines (parts_of t) c.in_ok-text.ensures.found)
+    (went_on (IsCertFault tail last) (λ t. ReadsAsCertificate tail (certificate_parts t)) (λ t. on_pair ps t.pair (λ p. TellsVerdict p.strip t)) n n out.result t (cert_read input f.used f.lines (certificate_parts t) c.in_ok-text.ensures.found)
     (failed (IsNoPair ps t.pair) (IsPairOf ps t.pair) (λ p. TellsVerdict p.strip t) n n out.result fault out.ensures.1 (inr none) (inr refl) (omega arith))))
 
 pub returns-clause-reply : goal.returns-clause-reply
@@ -83,7 +83,7 @@ returns-clause-reply c n =
     let says = c.check-verdict.ensures in
     with_front (verdict last) input n n _ f c.in_ok-front.ensures.found
     (went_on (IsFoundIn F) (AreNumbered F) (λ ps. on_cert last tail (λ t. on_pair ps t.pair (λ p. TellsVerdict p.strip t))) n n _ ps c.in_ok-pairs.ensures.pairs
-    (went_on (IsCertFault tail last) (λ t. ReadsAs tail (parts_of t)) (λ t. on_pair ps t.pair (λ p. TellsVerdict p.strip t)) n n _ t (cert_read input f.used f.lines (parts_of t) c.in_ok-text.ensures.found)
+    (went_on (IsCertFault tail last) (λ t. ReadsAsCertificate tail (certificate_parts t)) (λ t. on_pair ps t.pair (λ p. TellsVerdict p.strip t)) n n _ t (cert_read input f.used f.lines (certificate_parts t) c.in_ok-text.ensures.found)
     (went_on (IsNoPair ps t.pair) (IsPairOf ps t.pair) (λ p. TellsVerdict p.strip t) n n _ p is_pair
     (gives_unsolved (TellsVerdict p.strip t) n c.in_ok-line.line (record {
       verdict = c.check-verdict.result;

@@ -17,7 +17,7 @@ use Rattle.section_pairs.proofs.SectionRings.{count_is, views_at, count_at, each
 use Rattle.surface_core.proofs.JoinedPlaces.{count, places_on}
 use Rattle.ring_polygons.specs.declared.capping.CapList.{CapList}
 use Rattle.surface_core.specs.Caps.{AreCapsOf}
-use Rattle.ring_caps.specs.RingSurfaces.{both_caps, both_folded, by_group, both_sizes, section_sizes, group_sizes, HasLongGroup}
+use Rattle.ring_caps.specs.RingSurfaces.{both_group_caps, both_folded, by_group, both_sizes, section_sizes, group_sizes, HasLongGroup}
 use Rattle.ring_caps.proofs.RingSums.{groups_close}
 use Rattle.ring_caps.proofs.CapLoops.{sections_short, long_section}
 use Rattle.surface_core.proofs.SectionFacts.{are_few, are_views, outline_at}
@@ -81,7 +81,7 @@ loop-place-preserved c =
     let more : new ≡ old ++ one ∷ [] = c.in_ok-add_caps.ensures in
     let made = c.in_ok-more.ensures in
     let here : AreCapsOf by_group S ps s one = record {
-      triangles = made.triangles ∙ ap₂ (λ (os : List (List Point)) (rs : List RingView). both_caps os rs ps s) outlines rings;
+      triangles = made.triangles ∙ ap₂ (λ (os : List (List Point)) (rs : List RingView). both_group_caps os rs ps s) outlines rings;
       folded = made.folded ∙ ap₂ (λ (os : List (List Point)) (rs : List RingView). both_folded os rs ps s) outlines rings;
     } in
     let last : AreCapsOf by_group S ps (length old) one = subst (λ (k : ℕ). AreCapsOf by_group S ps k one) (sym c.loop-place.invariant.count) here in

@@ -10,7 +10,7 @@ use Rattle.correspondence.specs.Contours.{point_lists}
 use Rattle.ring_polygons.specs.Caps.{faced}
 use Rattle.section_pairs.specs.Pairs.{pair_parts, IsShort}
 use Rattle.section_pairs.specs.SectionFaults.{IsFirstFault, OrNoMemory}
-use Rattle.surface_core.specs.Marks.{AreMarks}
+use Rattle.surface_core.specs.Marks.{AreSetAt}
 use Rattle.surface_core.specs.Surfaces.{joined_on}
 use Rattle.section_pairs.proofs.Sides.{err_told}
 use Rattle.ring_caps.specs.RingSurfaces.{groups_on, ring_tops, groups_folded, side_sizes, face_sizes, HasLongGroup}
@@ -32,7 +32,7 @@ groups-requires-clause-there c = held_there (point_lists c.args._section.now) c.
 held : (c : goal.After-deref-2) → Held (point_lists c.args._section.now) c.args.rings.now c.args.families.now c.deref.result.now (joined_on c.args.face (map pair_parts c.args.pairs.now) c.args.place)
 held c =
     let places = joined_on c.args.face (map pair_parts c.args.pairs.now) c.args.place in
-    let marks = subst (λ (m : List Bool). AreMarks m (length c.args.rings.now) places) (sym c.deref.ensures.value) c.in_ok-joined.ensures in
+    let marks = subst (λ (m : List Bool). AreSetAt m (length c.args.rings.now) places) (sym c.deref.ensures.value) c.in_ok-joined.ensures in
     record { limits = c.requires.rings; count = c.requires.count; families = c.requires.families; marks = marks }
 
 pub side_caps-requires-clause-groups : goal.side_caps-requires-clause-groups
@@ -59,7 +59,7 @@ returns-in_err-list-clause-fault c =
     let places = joined_on c.args.face (map pair_parts c.args.pairs.now) s in
     let fault = c.in_err-list.field-0.0 in
     let exit = err_from_is_err_and c.from_residual-in_err-list.result c.from_residual-in_err-list.ensures.1 in
-    let marks = subst (λ (m : List Bool). AreMarks m (length c.args.rings.now) places) (sym c.deref.ensures.value) c.in_ok-joined.ensures in
+    let marks = subst (λ (m : List Bool). AreSetAt m (length c.args.rings.now) places) (sym c.deref.ensures.value) c.in_ok-joined.ensures in
     let sides = ap lists c.deref-2.ensures.value ∙ c.in_ok-held.ensures
     ∙ side_is outlines c.args.rings.now c.args.families.now c.deref.result.now places (record { limits = c.requires.rings; count = c.requires.count; families = c.requires.families; marks = marks }) in
     err_told c.from_residual-in_err-list.result fault (OrNoMemory (IsFirstFault IsShort HasLongGroup (face_sizes c.args.face s outlines views (map pair_parts c.args.pairs.now))))
@@ -70,7 +70,7 @@ returns-in_err-list-clause-fault c =
 sides : (c : goal.After-drop-joined-2) → lists c.deref-2.result.now ≡ groups_on c.args.face (point_lists c.args._section.now) (map pair_parts c.args.pairs.now) c.args.place
 sides c =
     let places = joined_on c.args.face (map pair_parts c.args.pairs.now) c.args.place in
-    let marks = subst (λ (m : List Bool). AreMarks m (length c.args.rings.now) places) (sym c.deref.ensures.value) c.in_ok-joined.ensures in
+    let marks = subst (λ (m : List Bool). AreSetAt m (length c.args.rings.now) places) (sym c.deref.ensures.value) c.in_ok-joined.ensures in
     ap lists c.deref-2.ensures.value ∙ c.in_ok-held.ensures
     ∙ side_is (point_lists c.args._section.now) c.args.rings.now c.args.families.now c.deref.result.now places (record { limits = c.requires.rings; count = c.requires.count; families = c.requires.families; marks = marks })
 

@@ -2,7 +2,7 @@ use Rattle.std.proofs.Common.{ℕ, pos, map, sym, ap, ◌∙◌}
 use Rattle.std.proofs.lemmas.List.{length-map}
 use Rattle.section_core.specs.Parts.{ContourParts}
 use Rattle.section_core.proofs.Placed.{placed_parts, placed_level}
-use Rattle.section_edits.specs.Changes.{spot_at}
+use Rattle.section_core.specs.Views.{spot_at}
 use Rattle.section_edits.proofs.changes.contour_with.Goals as goal
 
 pub returns-clause-parts : goal.returns-clause-parts

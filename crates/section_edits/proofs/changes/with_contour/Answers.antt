@@ -3,7 +3,8 @@ use Rattle.std.proofs.lemmas.Int.{to_z-of_z}
 use Rattle.fku_types.proofs.ListLaws.{all_pushed}
 use Rattle.section_core.specs.Flat.{IsLevelSection}
 use Rattle.section_core.specs.Views.{section_parts}
-use Rattle.section_edits.specs.Changes.{spot_at, added_in, contour_with}
+use Rattle.section_edits.specs.Changes.{added_in, contour_with}
+use Rattle.section_core.specs.Views.{spot_at}
 use Rattle.section_edits.proofs.Pushes.{changed_more}
 use Rattle.section_edits.proofs.changes.with_contour.Goals as goal
 

@@ -3,7 +3,8 @@ use Rattle.fku_types.proofs.ListLaws.{all_pushed}
 use Rattle.fku_types.proofs.LoopSteps.{image_next, image_all}
 use Rattle.section_core.specs.Flat.{IsLevelSection}
 use Rattle.section_core.specs.Views.{section_parts}
-use Rattle.section_edits.specs.Changes.{spot_at, reshaped_in}
+use Rattle.section_edits.specs.Changes.{reshaped_in}
+use Rattle.section_core.specs.Views.{spot_at}
 use Rattle.section_edits.proofs.changes.with_spots.Goals as goal
 
 pub loop-section-preserved : goal.loop-section-preserved

@@ -1,7 +1,8 @@
 use Rattle.std.proofs.Common.{◌≡◌, map, take, All}
 use Rattle.section_core.specs.Flat.{IsLevelSection}
 use Rattle.section_core.specs.Views.{section_parts}
-use Rattle.section_edits.specs.Changes.{spot_at, reshaped_in}
+use Rattle.section_edits.specs.Changes.{reshaped_in}
+use Rattle.section_core.specs.Views.{spot_at}
 use Rattle.section_edits.proofs.changes.with_spots.Given as goal
 
 abbrev pub invariant-loop-section : goal.invariant-loop-section

@@ -9,8 +9,9 @@ use Rattle.section_core.specs.Parts.{SectionParts}
 use Rattle.section_core.specs.Views.{contour_parts}
 use Rattle.section_edits.specs.declared.edit.Edit.TheVariants.{AddContour}
 use Rattle.section_edits.specs.declared.edit.EditFault.TheVariants.{NoSection, TooFew, NameTwice}
-use Rattle.section_edits.specs.Contours.{contour_of, has_section}
-use Rattle.section_edits.specs.Changes.{spot_at, contour_with, with_contour, changed}
+use Rattle.section_edits.specs.Contours.{contour_of, has_section_at}
+use Rattle.section_edits.specs.Changes.{contour_with, with_new_contour, changed}
+use Rattle.section_core.specs.Views.{spot_at}
 use Rattle.section_edits.specs.Refusals.{is_far, IsRefusal}
 use Rattle.section_edits.proofs.Answering.{told, by_own, by_late, late}
 use Rattle.section_edits.proofs.ChangedPoints.{all_near}
@@ -26,7 +27,7 @@ returns-then-not-has_section-clause-answers c =
     let e = AddContour z name points in
     let far : list_any is_far points ≡ false = sym c.any_far.ensures ∙ c.if-any_far.false in
     let at_z : c.has_section.result ≡ list_any (λ (s : Section). int_eq z s.z) c.sections.result.now = rw (to_z-of_z w32 z c.ranges.z) at c.has_section.ensures in
-    let section : has_section S.sections z ≡ false = section_test c.sections.result.now S.sections z c.has_section.result c.sections.ensures.parts at_z ∙ c.if-not-has_section.true in
+    let section : has_section_at S.sections z ≡ false = section_test c.sections.result.now S.sections z c.has_section.result c.sections.ensures.parts at_z ∙ c.if-not-has_section.true in
     rw (to_z-of_z w32 z c.ranges.z) (told (IsRefusal S e) (NoSection z) (λ s. s ≡ changed S e) (by_own S e (NoSection z) (cond-false _ _ _ far ∙ cond-true _ _ _ (ap not section))))
 
 pub returns-then-points-lt3-clause-answers : goal.returns-then-points-lt3-clause-answers
@@ -38,7 +39,7 @@ returns-then-points-lt3-clause-answers c =
     let e = AddContour z name points in
     let far : list_any is_far points ≡ false = sym c.any_far.ensures ∙ c.if-any_far.false in
     let at_z : c.has_section.result ≡ list_any (λ (s : Section). int_eq z s.z) c.sections.result.now = rw (to_z-of_z w32 z c.ranges.z) at c.has_section.ensures in
-    let section : has_section S.sections z ≡ true = section_test c.sections.result.now S.sections z c.has_section.result c.sections.ensures.parts at_z ∙ c.if-not-has_section.false in
+    let section : has_section_at S.sections z ≡ true = section_test c.sections.result.now S.sections z c.has_section.result c.sections.ensures.parts at_z ∙ c.if-not-has_section.false in
     let few : length points < 3 = omega (arith, c.if-points-lt3.true) in
     told (IsRefusal S e) (TooFew c.copy-name.result) (λ s. s ≡ changed S e)
     (by_own S e (TooFew c.copy-name.result)
@@ -53,7 +54,7 @@ returns-in-Some-clause-answers c =
     let e = AddContour z name points in
     let far : list_any is_far points ≡ false = sym c.any_far.ensures ∙ c.if-any_far.false in
     let at_z : c.has_section.result ≡ list_any (λ (s : Section). int_eq z s.z) c.sections.result.now = rw (to_z-of_z w32 z c.ranges.z) at c.has_section.ensures in
-    let section : has_section S.sections z ≡ true = section_test c.sections.result.now S.sections z c.has_section.result c.sections.ensures.parts at_z ∙ c.if-not-has_section.false in
+    let section : has_section_at S.sections z ≡ true = section_test c.sections.result.now S.sections z c.has_section.result c.sections.ensures.parts at_z ∙ c.if-not-has_section.false in
     let enough : 3 ≤ length points = omega (arith, c.if-points-lt3.false) in
     let named : contour_of S.sections name ≡ Some (contour_parts c.in-Some.field-0.now) = ap (λ (ss : List SectionParts). contour_of ss name) (sym c.sections-2.ensures.parts) ∙ sym c.in-Some.ensures in
     told (IsRefusal S e) (NameTwice c.copy-name-in-Some.result) (λ s. s ≡ changed S e)
@@ -79,10 +80,10 @@ returns-clause-answers c =
     let e = AddContour z name points in
     let far : list_any is_far points ≡ false = sym c.any_far.ensures ∙ c.if-any_far.false in
     let at_z : c.has_section.result ≡ list_any (λ (s : Section). int_eq z s.z) c.sections.result.now = rw (to_z-of_z w32 z c.ranges.z) at c.has_section.ensures in
-    let section : has_section S.sections z ≡ true = section_test c.sections.result.now S.sections z c.has_section.result c.sections.ensures.parts at_z ∙ c.if-not-has_section.false in
+    let section : has_section_at S.sections z ≡ true = section_test c.sections.result.now S.sections z c.has_section.result c.sections.ensures.parts at_z ∙ c.if-not-has_section.false in
     let enough : 3 ≤ length points = omega (arith, c.if-points-lt3.false) in
     let free : contour_of S.sections name ≡ None = ap (λ (ss : List SectionParts). contour_of ss name) (sym c.sections-2.ensures.parts) ∙ sym c.in_default.ensures in
-    let T = with_contour z (contour_with name (map spot_at points)) S in
+    let T = with_new_contour z (contour_with name (map spot_at points)) S in
     by_late S e T c.grown.result
     (cond-false _ _ _ far ∙ cond-false _ _ _ (ap not section) ∙ cond-false _ _ _ (le-ltb _ _ enough) ∙ cond-false _ _ _ (not_there S.sections name free))
     refl (rw (to_z-of_z w32 z c.ranges.z) at c.grown.ensures)
@@ -96,7 +97,7 @@ returns-clause-memory c =
     let e = AddContour z name points in
     let far : list_any is_far points ≡ false = sym c.any_far.ensures ∙ c.if-any_far.false in
     let at_z : c.has_section.result ≡ list_any (λ (s : Section). int_eq z s.z) c.sections.result.now = rw (to_z-of_z w32 z c.ranges.z) at c.has_section.ensures in
-    let section : has_section S.sections z ≡ true = section_test c.sections.result.now S.sections z c.has_section.result c.sections.ensures.parts at_z ∙ c.if-not-has_section.false in
+    let section : has_section_at S.sections z ≡ true = section_test c.sections.result.now S.sections z c.has_section.result c.sections.ensures.parts at_z ∙ c.if-not-has_section.false in
     let enough : 3 ≤ length points = omega (arith, c.if-points-lt3.false) in
     let free : contour_of S.sections name ≡ None = ap (λ (ss : List SectionParts). contour_of ss name) (sym c.sections-2.ensures.parts) ∙ sym c.in_default.ensures in
     late c.grown.result S e ((cond-false _ _ _ far ∙ cond-false _ _ _ (ap not section) ∙ cond-false _ _ _ (le-ltb _ _ enough) ∙ cond-false _ _ _ (not_there S.sections name free)))

@@ -4,7 +4,8 @@ use Rattle.std.proofs.lemmas.Int.{to_z-of_z}
 use Rattle.section_core.specs.Parts.{Parts}
 use Rattle.section_core.specs.Views.{section_parts, link_parts}
 use Rattle.section_core.proofs.Placed.{flat_of}
-use Rattle.section_edits.specs.Changes.{spot_at, added_in, contour_with, with_contour}
+use Rattle.section_edits.specs.Changes.{added_in, contour_with, with_new_contour}
+use Rattle.section_core.specs.Views.{spot_at}
 use Rattle.section_edits.proofs.Lawful.{ready}
 use Rattle.section_edits.proofs.AddedContours.{ready_added}
 use Rattle.section_edits.proofs.Remade.{made_ready, made_answers}
@@ -14,7 +15,7 @@ pub remade-requires-clause-ready : goal.remade-requires-clause-ready
 remade-requires-clause-ready c =
     let S = c.args.sections.now in
     let name = c.args.name.now in
-    let T : Parts = with_contour c.args.z (contour_with c.args.name.now (map spot_at c.args.spots.now)) c.args.sections.now in
+    let T : Parts = with_new_contour c.args.z (contour_with c.args.name.now (map spot_at c.args.spots.now)) c.args.sections.now in
     let height = rw (to_z-of_z w32 c.args.z c.ranges.z) at c.in_ok-changed.ensures.parts in
     let parts : map section_parts c.in_ok-changed.changed.items ≡ T.sections = height ∙ ap (map (added_in c.args.z (contour_with name (map spot_at c.args.spots.now)))) c.sections.ensures.parts in
     let links : map link_parts c.in_ok-links.links.items ≡ T.links = c.in_ok-links.ensures ∙ c.links.ensures.parts in
@@ -27,7 +28,7 @@ pub returns : goal.returns
 returns c =
     let S = c.args.sections.now in
     let name = c.args.name.now in
-    let T : Parts = with_contour c.args.z (contour_with c.args.name.now (map spot_at c.args.spots.now)) c.args.sections.now in
+    let T : Parts = with_new_contour c.args.z (contour_with c.args.name.now (map spot_at c.args.spots.now)) c.args.sections.now in
     let height = rw (to_z-of_z w32 c.args.z c.ranges.z) at c.in_ok-changed.ensures.parts in
     let parts : map section_parts c.in_ok-changed.changed.items ≡ T.sections = height ∙ ap (map (added_in c.args.z (contour_with name (map spot_at c.args.spots.now)))) c.sections.ensures.parts in
     let links : map link_parts c.in_ok-links.links.items ≡ T.links = c.in_ok-links.ensures ∙ c.links.ensures.parts in

@@ -3,7 +3,8 @@ use Rattle.std.proofs.lemmas.List.{length-map}
 use Rattle.section_core.specs.Parts.{Parts}
 use Rattle.section_core.specs.Views.{section_parts, link_parts}
 use Rattle.section_core.proofs.Placed.{flat_of}
-use Rattle.section_edits.specs.Changes.{spot_at, reshaped_in, with_spots}
+use Rattle.section_edits.specs.Changes.{reshaped_in, with_spots}
+use Rattle.section_core.specs.Views.{spot_at}
 use Rattle.section_edits.proofs.Lawful.{ready}
 use Rattle.section_edits.proofs.ReshapedContours.{ready_reshaped}
 use Rattle.section_edits.proofs.Remade.{made_ready, made_answers}

@@ -3,7 +3,8 @@ use Rattle.fku_types.specs.declared.points.Point.{Point}
 use Rattle.section_core.specs.Parts.{Spot, SectionParts}
 use Rattle.section_core.specs.Views.{spot_of, contour_parts}
 use Rattle.section_edits.specs.Contours.{contour_of}
-use Rattle.section_edits.specs.Changes.{spot_at, with_spots}
+use Rattle.section_edits.specs.Changes.{with_spots}
+use Rattle.section_core.specs.Views.{spot_at}
 use Rattle.section_edits.specs.Vertices.{vertex_edit, spots_after}
 use Rattle.section_edits.proofs.Answering.{by_late, late}
 use Rattle.section_edits.proofs.Lawful.{ready}

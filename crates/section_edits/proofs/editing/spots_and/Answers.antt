@@ -1,7 +1,7 @@
 use Rattle.std.proofs.Common.{List, map, ap, ◌∙◌}
 use Rattle.std.specs.List.{insert}
 use Rattle.section_core.specs.Parts.{Spot}
-use Rattle.section_edits.specs.Changes.{spot_at}
+use Rattle.section_core.specs.Views.{spot_at}
 use Rattle.section_edits.proofs.ChangedPoints.{map-insert}
 use Rattle.section_edits.proofs.editing.spots_and.Goals as goal
 

@@ -2,7 +2,7 @@ use Rattle.std.proofs.Common.{List, map, ap, ◌∙◌}
 use Rattle.std.specs.List.{remove}
 use Rattle.fku_types.proofs.ListLaws.{map_remove}
 use Rattle.section_core.specs.Parts.{Spot}
-use Rattle.section_edits.specs.Changes.{spot_at}
+use Rattle.section_core.specs.Views.{spot_at}
 use Rattle.section_edits.proofs.editing.spots_but.Goals as goal
 
 pub returns : goal.returns

@@ -1,7 +1,7 @@
 use Rattle.std.proofs.Common.{List, set, ap, ◌∙◌}
 use Rattle.std.proofs.lemmas.List.{map-set}
 use Rattle.section_core.specs.Parts.{Spot}
-use Rattle.section_edits.specs.Changes.{spot_at}
+use Rattle.section_core.specs.Views.{spot_at}
 use Rattle.section_edits.proofs.editing.spots_with.Goals as goal
 
 pub returns : goal.returns

@@ -6,7 +6,7 @@ use Rattle.fku_types.specs.declared.fault.Fault.{Fault}
 use Rattle.section_core.specs.declared.parts.Contour.{Contour}
 use Rattle.section_core.specs.declared.parts.Section.{Section}
 use Rattle.section_core.specs.Flat.{ContourData, contour_data, section_data}
-use Rattle.section_pairs.specs.SectionFaults.{IsSimpleContour, HasSelfCrossing, IsFirstFault, contours_of}
+use Rattle.section_pairs.specs.SectionFaults.{IsSimpleContour, HasSelfCrossing, IsFirstFault, data_contours}
 use Rattle.section_pairs.proofs.Firsts.{first_left, first_right, told}
 use Rattle.section_pairs.proofs.SectionData.{contours_at_split, simple_more, item_at, known_simple}
 use Rattle.section_pairs.proofs.faults.test_all_simple.Goals.{then-not-is_same_at+in_ok-test_contours, else-not-is_same_at}
@@ -21,11 +21,11 @@ returns-in_err-test_contours c =
     let exit = err_from_is_err_and c.from_residual.result c.from_residual.ensures.1 in
     let here : IsFirstFault IsSimpleContour HasSelfCrossing (map contour_data s.contours.items) fault =
     subst (λ (xs : List Contour). IsFirstFault IsSimpleContour HasSelfCrossing (map contour_data xs) fault) (c.deref.ensures.value ∙ ap (λ (x : Section). x.contours.items) (sym c.index-sections-place.is)) c.in_err-test_contours.ensures in
-    told c.from_residual.result fault (All IsSimpleContour (contours_of (map section_data sections))) (IsFirstFault IsSimpleContour HasSelfCrossing (contours_of (map section_data sections)))
+    told c.from_residual.result fault (All IsSimpleContour (data_contours (map section_data sections))) (IsFirstFault IsSimpleContour HasSelfCrossing (data_contours (map section_data sections)))
     (exit.1 ∙ ap (λ (e : Fault). Err e) exit.2)
     (subst (λ (xs : List ContourData). IsFirstFault IsSimpleContour HasSelfCrossing xs fault) (sym (contours_at_split sections i s c.loop-place-test.true c.index-sections-place.is))
-    (first_right IsSimpleContour HasSelfCrossing (contours_of (map section_data (take i sections))) (map contour_data s.contours.items ++ contours_of (map section_data (drop (i + 1) sections))) fault c.loop-place.invariant
-    (first_left IsSimpleContour HasSelfCrossing (map contour_data s.contours.items) (contours_of (map section_data (drop (i + 1) sections))) fault here)))
+    (first_right IsSimpleContour HasSelfCrossing (data_contours (map section_data (take i sections))) (map contour_data s.contours.items ++ data_contours (map section_data (drop (i + 1) sections))) fault c.loop-place.invariant
+    (first_left IsSimpleContour HasSelfCrossing (map contour_data s.contours.items) (data_contours (map section_data (drop (i + 1) sections))) fault here)))
 
 pub loop-place-preserved : goal.loop-place-preserved
 loop-place-preserved c =
@@ -43,4 +43,4 @@ loop-place-preserved c =
 
 pub returns : goal.returns
 returns c =
-    subst (λ (xs : List Section). All IsSimpleContour (contours_of (map section_data xs))) (take_all c.loop-place.place c.args.sections.now (omega arith)) c.loop-place.invariant
+    subst (λ (xs : List Section). All IsSimpleContour (data_contours (map section_data xs))) (take_all c.loop-place.place c.args.sections.now (omega arith)) c.loop-place.invariant

@@ -1,5 +1,5 @@
 use Rattle.std.proofs.Common.{◌≡◌, map, take}
-use Rattle.section_slices.specs.Marks.{placed}
+use Rattle.section_core.specs.Views.{placed}
 use Rattle.section_slices.proofs.middles.all_placed.Given as goal
 
 abbrev pub invariant-loop-spot : goal.invariant-loop-spot

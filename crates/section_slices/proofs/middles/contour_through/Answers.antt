@@ -1,5 +1,5 @@
 use Rattle.std.proofs.Common.{refl, subst, to_z-of_z, ℤ}
-use Rattle.section_core.specs.Flat.{IsLevel}
+use Rattle.section_core.specs.Flat.{IsAtHeight}
 use Rattle.section_core.proofs.Placed.{placed_parts, placed_level}
 use Rattle.section_slices.proofs.middles.contour_through.Goals as goal
 
@@ -8,5 +8,5 @@ returns-clause-parts c = placed_parts (record { name = c.args.name; points = c.i
 
 pub returns-clause-level : goal.returns-clause-level
 returns-clause-level c =
-    subst (λ (z : ℤ). IsLevel z (record { name = c.args.name; points = c.in_ok-points.points })) (to_z-of_z c.ranges.z)
+    subst (λ (z : ℤ). IsAtHeight z (record { name = c.args.name; points = c.in_ok-points.points })) (to_z-of_z c.ranges.z)
     (placed_level (record { name = c.args.name; points = c.in_ok-points.points }) _ c.args.outline.now c.in_ok-points.ensures)

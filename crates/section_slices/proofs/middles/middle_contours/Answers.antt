@@ -4,7 +4,7 @@ use Rattle.std.proofs.lemmas.List.{map-append}
 use Rattle.fku_types.proofs.ListLaws.{all_pushed}
 use Rattle.section_core.specs.declared.parts.Contour.{Contour}
 use Rattle.section_core.specs.Parts.{ContourParts}
-use Rattle.section_core.specs.Flat.{IsLevel}
+use Rattle.section_core.specs.Flat.{IsAtHeight}
 use Rattle.section_core.specs.Views.{contour_parts}
 use Rattle.section_pairs.specs.declared.gap_pairs.GapPair.{GapPair}
 use Rattle.section_pairs.specs.Pairs.{pair_parts}
@@ -38,14 +38,14 @@ loop-place-preserved c =
           record {
             parts = ap (map contour_parts) more ∙ map-append contour_parts old (y ∷ []) ∙ ap₂ (λ (cs : List ContourParts) (k : ContourParts). cs ++ k ∷ []) inv.parts here
                 ∙ sym (map_passed (middle_contour (outlines_of outlines)) test i (in_gap ps i g p l c.index-pairs-place.is (same_gap ∙ w.if-pairs-place.true)));
-            level = all_pushed (IsLevel _) old new y more inv.level w.in_ok-contour_through.ensures.level;
+            level = all_pushed (IsAtHeight _) old new y more inv.level w.in_ok-contour_through.ensures.level;
           }
           )
       | else-pairs-place w ↦ (
           let same = ap (λ (u : Vec Contour Global). u.items) w.contours-is in
           record {
             parts = ap (map contour_parts) same ∙ inv.parts ∙ sym (map_failed (middle_contour (outlines_of outlines)) test i (not_in_gap ps i g p l c.index-pairs-place.is (λ h. w.if-pairs-place.false (sym same_gap ∙ h))));
-            level = subst (λ (cs : List Contour). All (IsLevel (to_z w32 (of_z w32 c.args.z))) cs) (sym same) inv.level;
+            level = subst (λ (cs : List Contour). All (IsAtHeight (to_z w32 (of_z w32 c.args.z))) cs) (sym same) inv.level;
           }
           )
     ]

@@ -4,23 +4,23 @@ use Rattle.std.proofs.lemmas.List.Elements.{All-take}
 use Rattle.std.proofs.lemmas.List.Filters.{All-dedup}
 use Rattle.std.specs.List.{dedup}
 use Rattle.fku_types.specs.declared.points.Spot.{Spot}
-use Rattle.section_slices.specs.Roundings.{is_same, opened, rounded_spot, IsCloseToOne, IsSpotInRange}
+use Rattle.section_slices.specs.Roundings.{is_same_spot, opened_loop, rounded_spot, IsCloseToOne, IsRoundedInRange}
 use Rattle.section_slices.proofs.RoundedLoops.{close_spots, some_spot}
 use Rattle.section_slices.proofs.rounding.round_loop.Goals as goal
 
 pub returns-clause-spots : goal.returns-clause-spots
 returns-clause-spots c =
-    let left : c.drop_repeats.new.spots.items ≡ dedup is_same c.in_ok-spots.spots.items = c.drop_repeats.ensures in
-    c.truncate.ensures.items ∙ ap (take c.opened_count-count.result) (sym c.deref.ensures.value) ∙ c.opened_count-count.ensures ∙ ap opened (c.deref.ensures.value ∙ left ∙ ap (dedup is_same) c.in_ok-spots.ensures.value)
-    ∙ ap (λ (d : ℕ). opened (dedup is_same (map (rounded_spot d) c.args.points.now))) (ap nat_abs (to_z-of_z c.ranges.den))
+    let left : c.drop_repeats.new.spots.items ≡ dedup is_same_spot c.in_ok-spots.spots.items = c.drop_repeats.ensures in
+    c.truncate.ensures.items ∙ ap (take c.opened_count-count.result) (sym c.deref.ensures.value) ∙ c.opened_count-count.ensures ∙ ap opened_loop (c.deref.ensures.value ∙ left ∙ ap (dedup is_same_spot) c.in_ok-spots.ensures.value)
+    ∙ ap (λ (d : ℕ). opened_loop (dedup is_same_spot (map (rounded_spot d) c.args.points.now))) (ap nat_abs (to_z-of_z c.ranges.den))
 
 -- what holds of all rounded points holds of those that are left
-left : (P : Spot → Type 0) (all most kept : List Spot) (n : ℕ) → All P all → most ≡ dedup is_same all → kept ≡ take n most → All P kept
-left P all most kept n h e f = subst (All P) (sym (f ∙ ap (take n) e)) (All-take P n (dedup is_same all) (All-dedup is_same P all h))
+left : (P : Spot → Type 0) (all most kept : List Spot) (n : ℕ) → All P all → most ≡ dedup is_same_spot all → kept ≡ take n most → All P kept
+left P all most kept n h e f = subst (All P) (sym (f ∙ ap (take n) e)) (All-take P n (dedup is_same_spot all) (All-dedup is_same_spot P all h))
 
 pub returns-clause-range : goal.returns-clause-range
 returns-clause-range c =
-    left IsSpotInRange c.in_ok-spots.spots.items c.drop_repeats.new.spots.items c.truncate.new.self.items c.opened_count-count.result c.in_ok-spots.ensures.range
+    left IsRoundedInRange c.in_ok-spots.spots.items c.drop_repeats.new.spots.items c.truncate.new.self.items c.opened_count-count.result c.in_ok-spots.ensures.range
     c.drop_repeats.ensures c.truncate.ensures.items
 
 pub returns-clause-close : goal.returns-clause-close

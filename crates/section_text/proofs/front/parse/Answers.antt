@@ -7,7 +7,7 @@ use Rattle.section_core.specs.Accepted.{IsAccepted}
 use Rattle.section_core.specs.Canonical.{text_of}
 use Rattle.section_text.specs.Fronts.{Parses}
 use Rattle.text_io.specs.WordLists.{Kept}
-use Rattle.section_core.specs.Reader.{Holds, front_is}
+use Rattle.section_core.specs.Reader.{HoldsAnswer, front_is}
 use Rattle.section_core.specs.Texts.{IsTextOf}
 use Rattle.section_core.proofs.Canon.{text_reads}
 use Rattle.section_text.proofs.front.parse.Goals as goal
@@ -17,7 +17,7 @@ memory_alone : (text : List ℕ) (S : Parts) (fault : Fault) → Parses text (fr
 memory_alone text S NoMemory h = refl
 memory_alone text S fault h = absurd h
 
-reads : (text : List ℕ) (S : Parts) → IsAccepted S → text ≡ text_of S → Holds (kept_lines text) (front_is S [])
+reads : (text : List ℕ) (S : Parts) → IsAccepted S → text ≡ text_of S → HoldsAnswer (kept_lines text) (front_is S [])
 reads text S a e = subst (λ (t : List ℕ). IsTextOf t S) (sym e) (text_reads S a)
 
 no_tail : (tail more : List Kept) (line : Kept) → [] ≡ tail → tail ≡ line ∷ more → ⊥

@@ -6,7 +6,7 @@ use Rattle.plane_geom.proofs.Signed.{passed_i32}
 use Rattle.surface_core.specs.Objects.{AreAllPairs, IsFoundIn, alone, objects_in, pair_lists}
 use Rattle.surface_core.proofs.ObjectSteps.{zip_length}
 use Rattle.command_replies.specs.Reply.{Tells, Then}
-use Rattle.surface_commands.specs.Slice.{AreCuts, IsHeightFault, cuts_text, slice}
+use Rattle.surface_commands.specs.Slice.{AreCuts, IsHeightFaultOfAll, cuts_text, slice}
 use Rattle.surface_commands.specs.SliceSteps.{FitsHeight}
 use Rattle.section_slices.specs.Slices.{IsCut, loop_count}
 use Rattle.command_replies.proofs.ReplyLemmas.{counted_raised, failed, no_text, tells_counted, went_on, with_text}
@@ -27,7 +27,7 @@ returns-in_err-pairs-clause-reply g c =
     let n = g.P.PairSolver.solved_pairs c.args.solver.now in
     let out = c.from_residual-in_err-pairs in
     with_text (slice z) c.args.input.now n n out.result F c.in_ok-objects.ensures.text
-    (failed (IsFoundIn F) (AreAllPairs F) (λ pss. Then (IsHeightFault F z) (AreCuts F z) (λ cuts. Tells (cuts_text F.version z F.objects cuts) (sum_by loop_count cuts))) n n out.result c.in_err-pairs.field-0.0 out.ensures.1 c.in_err-pairs.ensures.fault (inr refl) (omega arith))
+    (failed (IsFoundIn F) (AreAllPairs F) (λ pss. Then (IsHeightFaultOfAll F z) (AreCuts F z) (λ cuts. Tells (cuts_text F.version z F.objects cuts) (sum_by loop_count cuts))) n n out.result c.in_err-pairs.field-0.0 out.ensures.1 c.in_err-pairs.ensures.fault (inr refl) (omega arith))
 
 pub returns-in_err-test_heights-clause-reply : goal.returns-in_err-test_heights-clause-reply
 returns-in_err-test_heights-clause-reply g c =
@@ -36,10 +36,10 @@ returns-in_err-test_heights-clause-reply g c =
     let n = g.P.PairSolver.solved_pairs c.args.solver.now in
     let out = c.from_residual-in_err-test_heights in
     let fault = c.in_err-test_heights.field-0.0 in
-    let bad = subst (λ (w : ℤ). IsHeightFault F w fault) (passed_i32 z c.requires.height) c.in_err-test_heights.ensures.fault in
+    let bad = subst (λ (w : ℤ). IsHeightFaultOfAll F w fault) (passed_i32 z c.requires.height) c.in_err-test_heights.ensures.fault in
     with_text (slice z) c.args.input.now n n out.result F c.in_ok-objects.ensures.text
-    (went_on (IsFoundIn F) (AreAllPairs F) (λ pss. Then (IsHeightFault F z) (AreCuts F z) (λ cuts. Tells (cuts_text F.version z F.objects cuts) (sum_by loop_count cuts))) n n out.result (pair_lists c.in_ok-pairs.pairs.items) c.in_ok-pairs.ensures.pairs
-    (failed (IsHeightFault F z) (AreCuts F z) (λ cuts. Tells (cuts_text F.version z F.objects cuts) (sum_by loop_count cuts)) n n out.result fault out.ensures.1 (inr bad) (inr refl) (omega arith)))
+    (went_on (IsFoundIn F) (AreAllPairs F) (λ pss. Then (IsHeightFaultOfAll F z) (AreCuts F z) (λ cuts. Tells (cuts_text F.version z F.objects cuts) (sum_by loop_count cuts))) n n out.result (pair_lists c.in_ok-pairs.pairs.items) c.in_ok-pairs.ensures.pairs
+    (failed (IsHeightFaultOfAll F z) (AreCuts F z) (λ cuts. Tells (cuts_text F.version z F.objects cuts) (sum_by loop_count cuts)) n n out.result fault out.ensures.1 (inr bad) (inr refl) (omega arith)))
 
 pub returns-clause-reply : goal.returns-clause-reply
 returns-clause-reply g c =
@@ -54,8 +54,8 @@ returns-clause-reply g c =
     let some = (subst (λ (w : ℤ). FitsHeight F w) same c.in_ok-test_heights.ensures.fits).some in
     let is = subst (λ (w : ℤ). text.items ≡ cuts_text F.version w F.objects c.deref-2.result.now) same c.in_ok-text.ensures ∙ ap (cuts_text F.version z F.objects) c.deref-2.ensures.value in
     with_text (slice z) c.args.input.now before after _ F c.in_ok-objects.ensures.text
-    (went_on (IsFoundIn F) (AreAllPairs F) (λ pss. Then (IsHeightFault F z) (AreCuts F z) (λ cuts. Tells (cuts_text F.version z F.objects cuts) (sum_by loop_count cuts))) before after _ (pair_lists c.in_ok-pairs.pairs.items) c.in_ok-pairs.ensures.pairs
-    (went_on (IsHeightFault F z) (AreCuts F z) (λ cuts. Tells (cuts_text F.version z F.objects cuts) (sum_by loop_count cuts)) before after _ cuts (record { each = each; some = some })
+    (went_on (IsFoundIn F) (AreAllPairs F) (λ pss. Then (IsHeightFaultOfAll F z) (AreCuts F z) (λ cuts. Tells (cuts_text F.version z F.objects cuts) (sum_by loop_count cuts))) before after _ (pair_lists c.in_ok-pairs.pairs.items) c.in_ok-pairs.ensures.pairs
+    (went_on (IsHeightFaultOfAll F z) (AreCuts F z) (λ cuts. Tells (cuts_text F.version z F.objects cuts) (sum_by loop_count cuts)) before after _ cuts (record { each = each; some = some })
     (tells_counted (cuts_text F.version z F.objects cuts) before after (sum_by loop_count cuts) text is
     (counted_raised (sum_by loop_count cuts) before after c.in_ok-cuts.ensures.counted c.slice_all.ensures.not_less) c.slice_all.ensures.not_less)))
 

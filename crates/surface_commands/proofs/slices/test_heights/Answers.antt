@@ -4,9 +4,9 @@ use Rattle.fku_types.specs.declared.fault.Fault.TheVariants.{Outside}
 use Rattle.section_core.specs.Parts.{Parts}
 use Rattle.surface_core.specs.Objects.{sections_in}
 use Rattle.surface_core.proofs.ObjectFacts.{objects_are}
-use Rattle.section_slices.specs.Slices.{IsHeightFault as IsFaultOfOne, IsOnSection, IsOutside}
+use Rattle.section_slices.specs.Slices.{IsHeightFaultOfAll as IsFaultOfOne, IsOnSection, IsOutside}
 use Rattle.section_slices.proofs.SliceLaws.{not_on_section}
-use Rattle.surface_commands.specs.Slice.{IsHeightFault, on_section, outside}
+use Rattle.surface_commands.specs.Slice.{IsHeightFaultOfAll, on_section, outside}
 use Rattle.surface_commands.proofs.SliceLemmas.{OnNone, OutsideAll, lies_on, lies_outside, no_outside, no_section, none_more, object_at, of_all, outside_at, outside_more}
 use Rattle.surface_commands.proofs.slices.test_heights.Goals as goal
 use Rattle.surface_commands.proofs.slices.test_heights.Goals.{in-Ok, in-Err+else-not-is_outside}
@@ -22,7 +22,7 @@ returns-then-not-is_outside-clause-fault c =
     let here : IsFaultOfOne o.sections z fault = subst (λ (w : ℤ). IsFaultOfOne o.sections w fault) (passed_i32 z c.requires) c.in-Err.ensures.fault in
     let is = lies_on o.sections z fault (sym c.is_outside.ensures ∙ c.if-not-is_outside.true) here in
     let are = objects_are F items c.items-object-items.ensures.parts c.items-object-items.ensures.under in
-    subst (IsHeightFault F z) (sym is.0) (on_section i o.sections (object_at F items i o are c.loop-object-test.true c.object-item.is) is.1)
+    subst (IsHeightFaultOfAll F z) (sym is.0) (on_section i o.sections (object_at F items i o are c.loop-object-test.true c.object-item.is) is.1)
 
 pub loop-object-preserved : goal.loop-object-preserved
 loop-object-preserved c =
@@ -69,4 +69,4 @@ returns-else-is_cut-clause-fault c =
     let same = passed_i32 z c.requires in
     let are = objects_are F items c.items-object-items.ensures.parts c.items-object-items.ensures.under in
     let all = subst (λ (w : ℤ). OutsideAll w (sections_in (take i items))) same (c.loop-object.invariant.none c.if-is_cut.false) in
-    subst (λ (w : ℤ). IsHeightFault F z (Outside w)) (sym same) (outside (of_all (λ (S : Parts). IsOutside S z) F items i are c.loop-object-test.false all))
+    subst (λ (w : ℤ). IsHeightFaultOfAll F z (Outside w)) (sym same) (outside (of_all (λ (S : Parts). IsOutside S z) F items i are c.loop-object-test.false all))

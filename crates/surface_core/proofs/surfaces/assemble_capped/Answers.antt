@@ -10,7 +10,7 @@ use Rattle.section_pairs.specs.Pairs.{pair_parts}
 use Rattle.surface_core.specs.Objects.{pair_cost_limit}
 use Rattle.section_pairs.proofs.Firsts.{all_one}
 use Rattle.surface_core.specs.Surfaces.{strips_in, capped_triangles}
-use Rattle.surface_core.specs.Caps.{IsWhole}
+use Rattle.surface_core.specs.Caps.{IsWholeSurface}
 use Rattle.surface_core.proofs.SectionFacts.{are_few, all_points, points_count, same_counts}
 use Rattle.surface_core.proofs.StripSteps.{are_least}
 use Rattle.surface_core.proofs.Totals.{few_pairs, pairs_within}
@@ -34,7 +34,7 @@ part g c =
     ap triangle_lists (c.in_ok-push.ensures.items ∙ ap (λ (l : List (Vec (List ℕ) Global)). l ++ c.in_ok-triangles.field-0.triangles ∷ []) c.new-parts.ensures.items)
     ∙ ap (λ (ts : List (List ℕ)). ts ∷ []) c.in_ok-triangles.ensures.triangles
 
-whole : (g : _) (c : goal.After-total_cost g) → IsWhole g.C.CapRule.capping c.args.sections.now (map pair_parts c.args.pairs.now) c.args.solved.now
+whole : (g : _) (c : goal.After-total_cost g) → IsWholeSurface g.C.CapRule.capping c.args.sections.now (map pair_parts c.args.pairs.now) c.args.solved.now
 whole g c = c.requires.caps.close c.args.solved.now c.requires.solved
 
 pub returns-clause-surface : goal.returns-clause-surface

@@ -1,7 +1,7 @@
 use Rattle.std.proofs.Common.{arith, ◌≡◌, ◌∙◌, ap, ap₂, ◌≤◌, ◌*ℤ◌, ◌+ℤ◌, ◌-ℤ◌, ℤ, unsigned_abs, to_z, of_z, w64}
 use Rattle.triangle_meshes.proofs.Sizes.{three, two_fit, three_fit, sum_within}
 use Rattle.plane_geom.proofs.Signed.{passed_i64}
-use Rattle.plane_geom.specs.Planes.{cross}
+use Rattle.plane_geom.specs.Planes.{cross_product}
 use Rattle.triangle_meshes.proofs.tetrahedra.determinant.Goals as goal
 
 pub overflow_add-result : goal.overflow_add-result
@@ -16,7 +16,7 @@ passed x h = passed_i64 x (omega arith)
 
 -- one of the three products
 by : (r d k ux uy vx vy : ℤ) → unsigned_abs d ≤ 1999998 → unsigned_abs k ≤ 8000000000000 → unsigned_abs ux ≤ 1999998 → unsigned_abs uy ≤ 1999998 → unsigned_abs vx ≤ 1999998 → unsigned_abs vy ≤ 1999998 →
-    r ≡ to_z w64 (of_z w64 d) *ℤ to_z w64 (of_z w64 k) → k ≡ cross (to_z w64 (of_z w64 ux)) (to_z w64 (of_z w64 uy)) (to_z w64 (of_z w64 vx)) (to_z w64 (of_z w64 vy)) → r ≡ d *ℤ cross ux uy vx vy
+    r ≡ to_z w64 (of_z w64 d) *ℤ to_z w64 (of_z w64 k) → k ≡ cross_product (to_z w64 (of_z w64 ux)) (to_z w64 (of_z w64 uy)) (to_z w64 (of_z w64 vx)) (to_z w64 (of_z w64 vy)) → r ≡ d *ℤ cross_product ux uy vx vy
 by r d k ux uy vx vy dn kn uxn uyn vxn vyn product is =
     product ∙ ap₂ ◌*ℤ◌ (passed d dn) (passed_i64 k kn ∙ is ∙ ap₂ ◌-ℤ◌ (ap₂ ◌*ℤ◌ (passed ux uxn) (passed vy vyn)) (ap₂ ◌*ℤ◌ (passed uy uyn) (passed vx vxn)))
 
