@@ -21,18 +21,22 @@ pub record Behind (h : Counts) (rest : List ℕ) (n : ℕ) (s : Surface) : Type 
   pub more : List ℕ
   pub is : rest ≡ concat (take n (body_of s)) ++ more
 
-pub behind_head : (text : List ℕ) (h : Counts) (rest : List ℕ) (n : ℕ) (s : Surface) → AreMeshCounts h → text ≡ mesh_head_line h ++ rest → StartsAs text (suc n) s → Behind h rest n s
+pub behind_head : (text : List ℕ) (h : Counts) (rest : List ℕ) (n : ℕ) (s : Surface) → AreMeshCounts h
+    → text ≡ mesh_head_line h ++ rest → StartsAs text (suc n) s → Behind h rest n s
 behind_head text h rest n s i e t =
     let p = pieces_of s t.mesh in
     let front : List ℕ = concat (take n (body_of s)) in
-    let r = split_same (mesh_head_line h) (mesh_head_line (head_of s)) rest (front ++ t.more) (head_width h i ∙ sym (head_width (head_of s) p.head)) (sym e ∙ t.is ∙ append_assoc (mesh_head_line (head_of s)) front t.more) in
+    let r = split_same (mesh_head_line h) (mesh_head_line (head_of s)) rest (front ++ t.more)
+    (head_width h i ∙ sym (head_width (head_of s) p.head))
+    (sym e ∙ t.is ∙ append_assoc (mesh_head_line (head_of s)) front t.more) in
     record { mesh = t.mesh; head = head_one (head_of s) h p.head i (sym r.0); more = t.more; is = r.1 }
 
 pub some_line : (s : Surface) → 1 ≤ length (surface_lines s)
 some_line s = omega arith
 
 -- a text of these counts that stops before their last line is not that of a mesh
-pub unread_by : (text : List ℕ) (h : Counts) (rest : List ℕ) (n : ℕ) → AreMeshCounts h → text ≡ mesh_head_line h ++ rest → n < line_count h → ((s : Surface) → StartsAs text (n + 1) s → ⊥) → (s : Surface) → ReadsAsMesh text s → ⊥
+pub unread_by : (text : List ℕ) (h : Counts) (rest : List ℕ) (n : ℕ) → AreMeshCounts h → text ≡ mesh_head_line h ++ rest
+    → n < line_count h → ((s : Surface) → StartsAs text (n + 1) s → ⊥) → (s : Surface) → ReadsAsMesh text s → ⊥
 unread_by text h rest n i e l none s r =
     let b = behind_head text h rest 0 s i e (starts_whole text 1 s (some_line s) r) in
     none s (starts_whole text (n + 1) s (omega (arith, length-surface_lines s r.mesh, ap line_count b.head)) r)

@@ -37,16 +37,24 @@ same_edge_equiv = record {
 
 -- ---- the length of a sorted list without its repetitions
 
-pub distinct_sorted : (xs ys zs : List ℕ) → IsPermutation xs ys → IsSorted nat_cmp ys → IsFiltered (DiffersFromLast eqb) [] ys zs → length zs ≡ distinct_count eqb xs
+pub distinct_sorted : (xs ys zs : List ℕ) → IsPermutation xs ys → IsSorted nat_cmp ys
+    → IsFiltered (DiffersFromLast eqb) [] ys zs → length zs ≡ distinct_count eqb xs
 distinct_sorted xs ys zs p s f =
     let e : zs ≡ dedup eqb ys = dedup_is eqb ys zs f in
     let up = AllPairs-from_increasing (dedup eqb ys) (IsStrictlyIncreasing-dedup ys s) in
-    let apart : IsDistinct eqb (dedup eqb ys) = IsDistinct-from_apart eqb (dedup eqb ys) (λ i j d l k. ne_eqb (get_or (dedup eqb ys) i d) (get_or (dedup eqb ys) j d) (λ q. absurd (omega (arith, up i j d l k, q)))) in
+    let apart : IsDistinct eqb (dedup eqb ys) =
+    IsDistinct-from_apart eqb (dedup eqb ys)
+    (λ i j d l k. ne_eqb (get_or (dedup eqb ys) i d) (get_or (dedup eqb ys) j d)
+    (λ q. absurd (omega (arith, up i j d l k, q)))) in
     let there : (q : ℕ) → is_member eqb (dedup eqb ys) q ≡ true → is_member eqb xs q ≡ true =
-    λ q t. list_any-from_Contains nat_eq_equiv q xs (Contains-permutation ys xs q (IsPermutation-sym xs ys p) (Contains-from_dedup eqb ys q (Contains-from_any eqb-true q (dedup eqb ys) t))) in
+    λ q t. list_any-from_Contains nat_eq_equiv q xs
+    (Contains-permutation ys xs q (IsPermutation-sym xs ys p)
+    (Contains-from_dedup eqb ys q (Contains-from_any eqb-true q (dedup eqb ys) t))) in
     let back : (q : ℕ) → is_member eqb xs q ≡ true → is_member eqb (dedup eqb ys) q ≡ true =
-    λ q t. list_any-from_Contains nat_eq_equiv q (dedup eqb ys) (Contains-dedup_nat ys q (Contains-permutation xs ys q p (Contains-from_any eqb-true q xs t))) in
-    ap length e ∙ length-from_keys nat_eq_equiv (dedup eqb ys) xs apart (λ q. same_truths (is_member eqb (dedup eqb ys) q) (is_member eqb xs q) (there q) (back q))
+    λ q t. list_any-from_Contains nat_eq_equiv q (dedup eqb ys)
+    (Contains-dedup_nat ys q (Contains-permutation xs ys q p (Contains-from_any eqb-true q xs t))) in
+    ap length e ∙ length-from_keys nat_eq_equiv (dedup eqb ys) xs apart
+    (λ q. same_truths (is_member eqb (dedup eqb ys) q) (is_member eqb xs q) (there q) (back q))
 
 -- ---- the edges of triangles, the smaller id first
 
@@ -66,7 +74,8 @@ in_pairs n (e ∷ es) a = (by_order (nat_le e.0 e.1) refl, in_pairs n es a.1)
         not_le (inl l) = omega arith
         not_le (inr l) = absurd (let f : false ≡ true = sym t ∙ le-leb e.0 e.1 l in cc)
 
-pub listed_pairs : (n : ℕ) (ts : List (List ℕ)) → All (All (λ id. id < n)) ts → AllByRecursion (IsPair n) (edges_listed ts)
+pub listed_pairs : (n : ℕ) (ts : List (List ℕ)) → All (All (λ id. id < n)) ts
+    → AllByRecursion (IsPair n) (edges_listed ts)
 listed_pairs n ts a = in_pairs n (flat_map ring_edges ts) (known_edges n ts a)
 
 -- ---- keys
@@ -83,16 +92,20 @@ same_key e f h g = same_truths (eqb (key e) (key f)) (same_edge e f)
     let b : e.1 ≡ f.1 = eqb-true e.1 f.1 p.1 in
     eq-eqb (key e) (key f) (omega arith)))
 
-member_keys : (e : ℕ × ℕ) (es : List (ℕ × ℕ)) → IsPair MAX_MESH_VERTICES e → AllByRecursion (IsPair MAX_MESH_VERTICES) es → is_member eqb (map key es) (key e) ≡ is_member same_edge es e
+member_keys : (e : ℕ × ℕ) (es : List (ℕ × ℕ)) → IsPair MAX_MESH_VERTICES e
+    → AllByRecursion (IsPair MAX_MESH_VERTICES) es → is_member eqb (map key es) (key e) ≡ is_member same_edge es e
 member_keys e [] h a = refl
 member_keys e (f ∷ es) h a = ap₂ (λ (x y : Bool). x || y) (same_key e f h a.0) (member_keys e es h a.1)
 
-length-keys : (es : List (ℕ × ℕ)) → AllByRecursion (IsPair MAX_MESH_VERTICES) es → length (unique_keys eqb (map key es)) ≡ length (unique_keys same_edge es)
+length-keys : (es : List (ℕ × ℕ)) → AllByRecursion (IsPair MAX_MESH_VERTICES) es
+    → length (unique_keys eqb (map key es)) ≡ length (unique_keys same_edge es)
 length-keys [] a = refl
-length-keys (e ∷ es) a = by_member (is_member eqb (map key es) (key e)) (is_member same_edge es e) (member_keys e es a.0 a.1) (length-keys es a.1)
+length-keys (e ∷ es) a = by_member (is_member eqb (map key es) (key e)) (is_member same_edge es e)
+    (member_keys e es a.0 a.1) (length-keys es a.1)
   where
     by_member : (p q : Bool) → p ≡ q → length (unique_keys eqb (map key es)) ≡ length (unique_keys same_edge es) →
-        length (cond p (unique_keys eqb (map key es)) (key e ∷ unique_keys eqb (map key es))) ≡ length (cond q (unique_keys same_edge es) (e ∷ unique_keys same_edge es))
+        length (cond p (unique_keys eqb (map key es)) (key e ∷ unique_keys eqb (map key es)))
+        ≡ length (cond q (unique_keys same_edge es) (e ∷ unique_keys same_edge es))
     by_member true true e h = h
     by_member false false e h = omega (arith, h)
     by_member true false e h = absurd (let f : true ≡ false = e in cc)
@@ -103,7 +116,9 @@ keys_of [] = refl
 keys_of (e ∷ es) = ap (λ (l : List ℕ). edge_key e ∷ l) (keys_of es)
 
 -- as many different keys as different edges
-pub edges_from_keys : (ts : List (List ℕ)) → All (All (λ id. id < MAX_MESH_VERTICES)) ts → distinct_count eqb (map edge_key (flat_map ring_edges ts)) ≡ distinct_count same_edge (edges_listed ts)
+pub edges_from_keys : (ts : List (List ℕ)) → All (All (λ id. id < MAX_MESH_VERTICES)) ts
+    → distinct_count eqb (map edge_key (flat_map ring_edges ts)) ≡ distinct_count same_edge (edges_listed ts)
 edges_from_keys ts a =
     let es = flat_map ring_edges ts in
-    ap (λ (l : List ℕ). length (unique_keys eqb l)) (keys_of es) ∙ length-keys (map unordered es) (listed_pairs MAX_MESH_VERTICES ts a)
+    ap (λ (l : List ℕ). length (unique_keys eqb l)) (keys_of es)
+    ∙ length-keys (map unordered es) (listed_pairs MAX_MESH_VERTICES ts a)

@@ -28,13 +28,25 @@ record NextPoints (points : List Point) (count : ℕ) : Type 0 where
   long : length next ≡ count
   is : point_lines points ≡ coordinates_line next ∷ point_lines behind
 
-next_points : (points : List Point) (count : ℕ) → All IsInRange points → 0 < length points → count ≡ min 2 (length points) → NextPoints points count
+next_points : (points : List Point) (count : ℕ) → All IsInRange points → 0 < length points
+    → count ≡ min 2 (length points) → NextPoints points count
 next_points [] count a l e = absurd (omega arith)
 next_points (p ∷ []) count a l e = record { next = p ∷ []; behind = []; range = a; long = sym e; is = refl }
-next_points (p ∷ q ∷ ps) count a l e = record { next = p ∷ q ∷ []; behind = ps; range = All-take IsInRange 2 (p ∷ q ∷ ps) a; long = omega (arith, e); is = refl }
+next_points (p ∷ q ∷ ps) count a l e =
+    record {
+      next = p ∷ q ∷ [];
+      behind = ps;
+      range = All-take IsInRange 2 (p ∷ q ∷ ps) a;
+      long = omega (arith, e);
+      is =
+          refl;
+    }
 
-points_stuck : (h : Counts) (sizes : List ℕ) (points : List Point) (rest : List ℕ) (j : ℕ) (s : Surface) → AreMeshCounts h → AreSizes h sizes → length sizes ≡ h.parts → ArePoints h points → length points ≡ 2 * j → 2 * j < h.vertices →
-    NoneOf (AreNext (min 2 (h.vertices - 2 * j))) coordinates_line rest → Behind h (concat (size_lines 1 sizes) ++ (concat (point_lines points) ++ rest)) (suc (h.parts + j)) s → ⊥
+points_stuck : (h : Counts) (sizes : List ℕ) (points : List Point) (rest : List ℕ) (j : ℕ) (s : Surface)
+    → AreMeshCounts h → AreSizes h sizes → length sizes ≡ h.parts → ArePoints h points → length points ≡ 2 * j
+    → 2 * j < h.vertices →
+    NoneOf (AreNext (min 2 (h.vertices - 2 * j))) coordinates_line rest
+    → Behind h (concat (size_lines 1 sizes) ++ (concat (point_lines points) ++ rest)) (suc (h.parts + j)) s → ⊥
 points_stuck h sizes points rest j s i a all c even l excluded b =
     let p = pieces_of s b.mesh in
     let parts : length (sizes_of s) ≡ h.parts = p.parts ∙ ap (λ (g : Counts). g.parts) b.head in
@@ -45,36 +57,67 @@ points_stuck h sizes points rest j s i a all c even l excluded b =
     let back : List Point = drop (2 * j) s.vertices in
     let long : length front ≡ 2 * j = omega (arith, length-take (2 * j) s.vertices) in
     let left : length back ≡ h.vertices - 2 * j = omega (arith, length-drop (2 * j) s.vertices) in
-    let r = next_points back (min 2 (h.vertices - 2 * j)) (All-drop IsInRange (2 * j) s.vertices p.range) (omega arith) (ap (min 2) (sym left)) in
+    let r = next_points back (min 2 (h.vertices - 2 * j)) (All-drop IsInRange (2 * j) s.vertices p.range) (omega arith)
+    (ap (min 2) (sym left)) in
     let line : List ℕ = coordinates_line r.next in
     let others : List (List ℕ) = map polygon_line (polygons_of s) in
     let done : List (List ℕ) = size_lines 1 (sizes_of s) ++ point_lines front in
     let after : List (List ℕ) = point_lines r.behind ++ others in
     let lines : body_of s ≡ done ++ (line ∷ after) =
-    ap (λ (x : List Point). size_lines 1 (sizes_of s) ++ (point_lines x ++ others)) (sym (take-append-drop (2 * j) s.vertices))
-    ∙ ap (λ (x : List (List ℕ)). size_lines 1 (sizes_of s) ++ (x ++ others)) (point_lines-append j front back long ∙ ap (λ (x : List (List ℕ)). point_lines front ++ x) r.is)
-    ∙ ap (λ (x : List (List ℕ)). size_lines 1 (sizes_of s) ++ x) (append_assoc (point_lines front) (line ∷ point_lines r.behind) others)
+    ap (λ (x : List Point). size_lines 1 (sizes_of s) ++ (point_lines x ++ others))
+    (sym (take-append-drop (2 * j) s.vertices))
+    ∙ ap (λ (x : List (List ℕ)). size_lines 1 (sizes_of s) ++ (x ++ others))
+    (point_lines-append j front back long ∙ ap (λ (x : List (List ℕ)). point_lines front ++ x) r.is)
+    ∙ ap (λ (x : List (List ℕ)). size_lines 1 (sizes_of s) ++ x)
+    (append_assoc (point_lines front) (line ∷ point_lines r.behind) others)
     ∙ sym (append_assoc (size_lines 1 (sizes_of s)) (point_lines front) (line ∷ after)) in
-    let next = next_line (body_of s) done line after (h.parts + j) lines (omega (arith, length-append (size_lines 1 (sizes_of s)) (point_lines front), length-size_lines 1 (sizes_of s), parts, length-point_lines front, long)) in
+    let next = next_line (body_of s) done line after (h.parts + j) lines
+    (omega (
+      arith,
+      length-append (size_lines 1 (sizes_of s)) (point_lines front),
+      length-size_lines 1 (sizes_of s),
+      parts,
+      length-point_lines front,
+      long,
+    )) in
     let A = concat (size_lines 1 (sizes_of s)) in
     let B = concat (point_lines front) in
-    let bytes = b.is ∙ ap (λ (x : List ℕ). x ++ b.more) (next ∙ ap (λ (x : List ℕ). x ++ line) (concat-append (size_lines 1 (sizes_of s)) (point_lines front))) ∙ regroup A B line b.more in
+    let bytes = b.is ∙ ap (λ (x : List ℕ). x ++ b.more)
+    (next ∙ ap (λ (x : List ℕ). x ++ line) (concat-append (size_lines 1 (sizes_of s)) (point_lines front)))
+    ∙ regroup A B line b.more in
     let first = split_same (concat (size_lines 1 sizes)) A (concat (point_lines points) ++ rest) (B ++ (line ++ b.more))
-    (omega (arith, sizes_width 1 sizes (omega (arith, a.room, a.fit)), sizes_width 1 (sizes_of s) (omega (arith, total)), all, parts)) bytes in
+    (omega (
+      arith,
+      sizes_width 1 sizes (omega (arith, a.room, a.fit)),
+      sizes_width 1 (sizes_of s) (omega (arith, total)),
+      all,
+      parts,
+    )) bytes in
     let second = split_same (concat (point_lines points)) B rest (line ++ b.more)
-    (omega (arith, points_width points c.range, points_width front (All-take IsInRange (2 * j) s.vertices p.range), even, long)) first.1 in
+    (omega (
+      arith,
+      points_width points c.range,
+      points_width front (All-take IsInRange (2 * j) s.vertices p.range),
+      even,
+      long,
+    )) first.1 in
     excluded r.next b.more (record { range = r.range; long = r.long }) second.1
   where
     regroup : (a b c d : List ℕ) → ((a ++ b) ++ c) ++ d ≡ a ++ (b ++ (c ++ d))
     regroup a b c d = simp append_assoc
 
-pub points_fault : (text : List ℕ) (h : Counts) (sizes : List ℕ) (points : List Point) (rest : List ℕ) (j : ℕ) → AreMeshCounts h → AreSizes h sizes → length sizes ≡ h.parts → ArePoints h points → length points ≡ 2 * j → 2 * j < h.vertices →
-    text ≡ mesh_head_line h ++ (concat (size_lines 1 sizes) ++ (concat (point_lines points) ++ rest)) → NoneOf (AreNext (min 2 (h.vertices - 2 * j))) coordinates_line rest → HasMeshFault text (2 + h.parts + j)
+pub points_fault : (text : List ℕ) (h : Counts) (sizes : List ℕ) (points : List Point) (rest : List ℕ) (j : ℕ)
+    → AreMeshCounts h → AreSizes h sizes → length sizes ≡ h.parts → ArePoints h points → length points ≡ 2 * j
+    → 2 * j < h.vertices →
+    text ≡ mesh_head_line h ++ (concat (size_lines 1 sizes) ++ (concat (point_lines points) ++ rest))
+    → NoneOf (AreNext (min 2 (h.vertices - 2 * j))) coordinates_line rest → HasMeshFault text (2 + h.parts + j)
 unfolding line_count
 points_fault text h sizes points rest j i a all c even l e excluded =
     let behind : List ℕ = concat (size_lines 1 sizes) ++ (concat (point_lines points) ++ rest) in
     let t = starts_points text h sizes points rest j i a all c even e in
     let n : ℕ = suc (h.parts + j) in
     let none : (s : Surface) → StartsAs text (n + 1) s → ⊥ =
-    λ s u. points_stuck h sizes points rest j s i a all c even l excluded (behind_head text h behind n s i e (subst (λ (k : ℕ). StartsAs text k s) (add-one n) u)) in
-    subst (HasMeshFault text) (let k : n + 1 ≡ 2 + h.parts + j = omega arith in k) (fault_from text n t.0 t.1 none (unread_by text h behind n i e (omega arith) none))
+    λ s u. points_stuck h sizes points rest j s i a all c even l excluded
+    (behind_head text h behind n s i e (subst (λ (k : ℕ). StartsAs text k s) (add-one n) u)) in
+    subst (HasMeshFault text) (let k : n + 1 ≡ 2 + h.parts + j = omega arith in k)
+    (fault_from text n t.0 t.1 none (unread_by text h behind n i e (omega arith) none))

@@ -22,19 +22,29 @@ use Rattle.byu_text.proofs.BehindHead.{body_of, Behind, behind_head, some_line, 
 
 -- ---- the polygons
 
-triangle_stuck : (h : Counts) (sizes : List ℕ) (points : List Point) (triangles : List (List ℕ)) (rest : List ℕ) (s : Surface) → AreMeshCounts h → AreSizes h sizes → length sizes ≡ h.parts → ArePoints h points → length points ≡ h.vertices → AreTriangles h triangles → length triangles < h.polygons →
-    NoneOf (IsKnownTriangle h) polygon_line rest → Behind h (concat (size_lines 1 sizes) ++ (concat (point_lines points) ++ (concat (map polygon_line triangles) ++ rest))) (suc (h.parts + ((h.vertices + 1) / 2 + length triangles))) s → ⊥
+triangle_stuck : (h : Counts) (sizes : List ℕ) (points : List Point) (triangles : List (List ℕ)) (rest : List ℕ)
+    (s : Surface) → AreMeshCounts h → AreSizes h sizes → length sizes ≡ h.parts → ArePoints h points
+    → length points ≡ h.vertices → AreTriangles h triangles → length triangles < h.polygons →
+    NoneOf (IsKnownTriangle h) polygon_line rest
+    → Behind h (concat (size_lines 1 sizes)
+    ++ (concat (point_lines points) ++ (concat (map polygon_line triangles) ++ rest)))
+    (suc (h.parts + ((h.vertices + 1) / 2 + length triangles))) s → ⊥
 triangle_stuck h sizes points triangles rest s i a all c every d l excluded b =
     let p = pieces_of s b.mesh in
     let parts : length (sizes_of s) ≡ h.parts = p.parts ∙ ap (λ (g : Counts). g.parts) b.head in
     let total : sum (sizes_of s) ≡ h.polygons = p.sum ∙ ap (λ (g : Counts). g.polygons) b.head in
     let vertices : length s.vertices ≡ h.vertices = ap (λ (g : Counts). g.vertices) b.head in
     let polygons : length (polygons_of s) ≡ h.polygons = p.polygons ∙ ap (λ (g : Counts). g.polygons) b.head in
-    let known : All (IsKnownTriangle h) (polygons_of s) = subst (λ (g : Counts). All (IsKnownTriangle g) (polygons_of s)) b.head p.known in
+    let known : All (IsKnownTriangle h) (polygons_of s) =
+    subst (λ (g : Counts). All (IsKnownTriangle g) (polygons_of s)) b.head p.known in
     let few = i.few_polygons in
     let r = parted (polygons_of s) (length triangles) (omega (arith, polygons)) in
-    let known' : AllByRecursion (IsKnownTriangle h) (r.front ++ (r.item ∷ r.back)) = subst (AllByRecursion (IsKnownTriangle h)) r.is (recursion_from_All (IsKnownTriangle h) (polygons_of s) known) in
-    let front_known : All (IsKnownTriangle h) r.front = All-from_recursion (IsKnownTriangle h) r.front (all_front (IsKnownTriangle h) r.front (r.item ∷ r.back) known') in
+    let known' : AllByRecursion (IsKnownTriangle h) (r.front ++ (r.item ∷ r.back)) =
+    subst (AllByRecursion (IsKnownTriangle h)) r.is (recursion_from_All (IsKnownTriangle h) (polygons_of s) known)
+    in
+    let front_known : All (IsKnownTriangle h) r.front =
+    All-from_recursion (IsKnownTriangle h) r.front (all_front (IsKnownTriangle h) r.front (r.item ∷ r.back) known')
+    in
     let line : List ℕ = polygon_line r.item in
     let after : List (List ℕ) = map polygon_line r.back in
     let S : List (List ℕ) = size_lines 1 (sizes_of s) in
@@ -42,16 +52,38 @@ triangle_stuck h sizes points triangles rest s i a all c every d l excluded b =
     let F : List (List ℕ) = map polygon_line r.front in
     let done : List (List ℕ) = S ++ (V ++ F) in
     let lines : body_of s ≡ done ++ (line ∷ after) =
-    ap (λ (x : List (List ℕ)). S ++ (V ++ x)) (ap (map polygon_line) r.is ∙ map-append polygon_line r.front (r.item ∷ r.back)) ∙ relist S V F (line ∷ after) in
+    ap (λ (x : List (List ℕ)). S ++ (V ++ x))
+    (ap (map polygon_line) r.is ∙ map-append polygon_line r.front (r.item ∷ r.back))
+    ∙ relist S V F (line ∷ after) in
     let next = next_line (body_of s) done line after (h.parts + ((h.vertices + 1) / 2 + length triangles)) lines
-    (omega (arith, length-append S (V ++ F), length-append V F, length-size_lines 1 (sizes_of s), parts, length-point_lines s.vertices, vertices, length-map r.front polygon_line, r.long)) in
+    (omega (
+      arith,
+      length-append S (V ++ F),
+      length-append V F,
+      length-size_lines 1 (sizes_of s),
+      parts,
+      length-point_lines s.vertices,
+      vertices,
+      length-map r.front polygon_line,
+      r.long,
+    )) in
     let A = concat S in
     let B = concat V in
     let C = concat F in
-    let bytes = b.is ∙ ap (λ (x : List ℕ). x ++ b.more) (next ∙ ap (λ (x : List ℕ). x ++ line) (concat-append S (V ++ F) ∙ ap (λ (x : List ℕ). A ++ x) (concat-append V F))) ∙ regroup A B C line b.more in
-    let first = split_same (concat (size_lines 1 sizes)) A (concat (point_lines points) ++ (concat (map polygon_line triangles) ++ rest)) (B ++ (C ++ (line ++ b.more)))
-    (omega (arith, sizes_width 1 sizes (omega (arith, a.room, a.fit)), sizes_width 1 (sizes_of s) (omega (arith, total)), all, parts)) bytes in
-    let second = split_same (concat (point_lines points)) B (concat (map polygon_line triangles) ++ rest) (C ++ (line ++ b.more))
+    let bytes = b.is ∙ ap (λ (x : List ℕ). x ++ b.more)
+    (next ∙ ap (λ (x : List ℕ). x ++ line)
+    (concat-append S (V ++ F) ∙ ap (λ (x : List ℕ). A ++ x) (concat-append V F))) ∙ regroup A B C line b.more in
+    let first = split_same (concat (size_lines 1 sizes)) A
+    (concat (point_lines points) ++ (concat (map polygon_line triangles) ++ rest)) (B ++ (C ++ (line ++ b.more)))
+    (omega (
+      arith,
+      sizes_width 1 sizes (omega (arith, a.room, a.fit)),
+      sizes_width 1 (sizes_of s) (omega (arith, total)),
+      all,
+      parts,
+    )) bytes in
+    let second = split_same (concat (point_lines points)) B (concat (map polygon_line triangles) ++ rest)
+    (C ++ (line ++ b.more))
     (omega (arith, points_width points c.range, points_width s.vertices p.range, every, vertices)) first.1 in
     let third = split_same (concat (map polygon_line triangles)) C rest (line ++ b.more)
     (omega (arith, triangles_width h i triangles d.known, triangles_width h i r.front front_known, r.long)) second.1 in
@@ -63,20 +95,31 @@ triangle_stuck h sizes points triangles rest s i a all c every d l excluded b =
     relist : (a b c d : List (List ℕ)) → a ++ (b ++ (c ++ d)) ≡ (a ++ (b ++ c)) ++ d
     relist a b c d = simp append_assoc
 
-pub triangle_fault : (text : List ℕ) (h : Counts) (sizes : List ℕ) (points : List Point) (triangles : List (List ℕ)) (rest : List ℕ) → AreMeshCounts h → AreSizes h sizes → length sizes ≡ h.parts → ArePoints h points → length points ≡ h.vertices → AreTriangles h triangles → length triangles < h.polygons →
-    text ≡ mesh_head_line h ++ (concat (size_lines 1 sizes) ++ (concat (point_lines points) ++ (concat (map polygon_line triangles) ++ rest))) → NoneOf (IsKnownTriangle h) polygon_line rest → HasMeshFault text (2 + h.parts + (h.vertices + 1) / 2 + length triangles)
+pub triangle_fault : (text : List ℕ) (h : Counts) (sizes : List ℕ) (points : List Point) (triangles : List (List ℕ))
+    (rest : List ℕ) → AreMeshCounts h → AreSizes h sizes → length sizes ≡ h.parts → ArePoints h points
+    → length points ≡ h.vertices → AreTriangles h triangles → length triangles < h.polygons →
+    text ≡ mesh_head_line h ++ (concat (size_lines 1 sizes)
+    ++ (concat (point_lines points) ++ (concat (map polygon_line triangles) ++ rest)))
+    → NoneOf (IsKnownTriangle h) polygon_line rest
+    → HasMeshFault text (2 + h.parts + (h.vertices + 1) / 2 + length triangles)
 unfolding line_count
 triangle_fault text h sizes points triangles rest i a all c every d l e excluded =
-    let behind : List ℕ = concat (size_lines 1 sizes) ++ (concat (point_lines points) ++ (concat (map polygon_line triangles) ++ rest)) in
+    let behind : List ℕ = concat (size_lines 1 sizes)
+    ++ (concat (point_lines points) ++ (concat (map polygon_line triangles) ++ rest)) in
     let t = starts_triangles text h sizes points triangles rest i a all c every d e in
     let n : ℕ = suc (h.parts + ((h.vertices + 1) / 2 + length triangles)) in
     let none : (s : Surface) → StartsAs text (n + 1) s → ⊥ =
-    λ s u. triangle_stuck h sizes points triangles rest s i a all c every d l excluded (behind_head text h behind n s i e (subst (λ (k : ℕ). StartsAs text k s) (add-one n) u)) in
-    subst (HasMeshFault text) (let k : n + 1 ≡ 2 + h.parts + (h.vertices + 1) / 2 + length triangles = omega arith in k) (fault_from text n t.0 t.1 none (unread_by text h behind n i e (omega arith) none))
+    λ s u. triangle_stuck h sizes points triangles rest s i a all c every d l excluded
+    (behind_head text h behind n s i e (subst (λ (k : ℕ). StartsAs text k s) (add-one n) u)) in
+    subst (HasMeshFault text) (let k : n + 1 ≡ 2 + h.parts + (h.vertices + 1) / 2 + length triangles = omega arith in k)
+    (fault_from text n t.0 t.1 none (unread_by text h behind n i e (omega arith) none))
 
 -- ---- after the last line
 
-pub whole_width : (h : Counts) (sizes : List ℕ) (points : List Point) (triangles : List (List ℕ)) → HasPieces h sizes points triangles → length (concat (lines_with h sizes points triangles)) ≡ 33 + (17 * h.parts + ((36 * h.vertices + (h.vertices + 1) / 2) + 25 * h.polygons))
+pub whole_width : (h : Counts) (sizes : List ℕ) (points : List Point) (triangles : List (List ℕ))
+    → HasPieces h sizes points triangles
+    → length (concat (lines_with h sizes points triangles)) ≡ 33
+    + (17 * h.parts + ((36 * h.vertices + (h.vertices + 1) / 2) + 25 * h.polygons))
 whole_width h sizes points triangles p =
     let A = concat (size_lines 1 sizes) in
     let B = concat (point_lines points) in
@@ -97,11 +140,16 @@ whole_width h sizes points triangles p =
       p.polygons,
     )
 
-pub end_fault : (text : List ℕ) (h : Counts) (sizes : List ℕ) (points : List Point) (triangles : List (List ℕ)) (rest : List ℕ) → HasPieces h sizes points triangles → AreSizes h sizes → ArePoints h points → AreTriangles h triangles → 0 < length rest →
-    text ≡ mesh_head_line h ++ (concat (size_lines 1 sizes) ++ (concat (point_lines points) ++ (concat (map polygon_line triangles) ++ rest))) → HasMeshFault text (2 + h.parts + (h.vertices + 1) / 2 + h.polygons)
+pub end_fault : (text : List ℕ) (h : Counts) (sizes : List ℕ) (points : List Point) (triangles : List (List ℕ))
+    (rest : List ℕ) → HasPieces h sizes points triangles → AreSizes h sizes → ArePoints h points
+    → AreTriangles h triangles → 0 < length rest →
+    text ≡ mesh_head_line h ++ (concat (size_lines 1 sizes)
+    ++ (concat (point_lines points) ++ (concat (map polygon_line triangles) ++ rest)))
+    → HasMeshFault text (2 + h.parts + (h.vertices + 1) / 2 + h.polygons)
 unfolding line_count
 end_fault text h sizes points triangles rest p a c d l e =
-    let behind : List ℕ = concat (size_lines 1 sizes) ++ (concat (point_lines points) ++ (concat (map polygon_line triangles) ++ rest)) in
+    let behind : List ℕ = concat (size_lines 1 sizes)
+    ++ (concat (point_lines points) ++ (concat (map polygon_line triangles) ++ rest)) in
     let t = starts_triangles text h sizes points triangles rest p.head a p.parts c p.vertices d e in
     let n : ℕ = suc (h.parts + ((h.vertices + 1) / 2 + length triangles)) in
     let none : (s : Surface) → StartsAs text (n + 1) s → ⊥ =
@@ -113,7 +161,11 @@ end_fault text h sizes points triangles rest p a c d l e =
     let A = concat (size_lines 1 sizes) in
     let B = concat (point_lines points) in
     let C = concat (map polygon_line triangles) in
-    let width : (g : Counts) → g ≡ h → 33 + (17 * g.parts + ((36 * g.vertices + (g.vertices + 1) / 2) + 25 * g.polygons)) ≡ 33 + (17 * h.parts + ((36 * h.vertices + (h.vertices + 1) / 2) + 25 * h.polygons)) = λ g f. ap (λ (g : Counts). 33 + (17 * g.parts + ((36 * g.vertices + (g.vertices + 1) / 2) + 25 * g.polygons))) f in
+    let width : (g : Counts) → g ≡ h → 33
+    + (17 * g.parts + ((36 * g.vertices + (g.vertices + 1) / 2) + 25 * g.polygons)) ≡ 33
+    + (17 * h.parts + ((36 * h.vertices + (h.vertices + 1) / 2) + 25 * h.polygons)) =
+    λ g f. ap (λ (g : Counts). 33 + (17 * g.parts + ((36 * g.vertices + (g.vertices + 1) / 2) + 25 * g.polygons))) f
+    in
     let few = p.head.few_polygons in
     absurd (omega (
       arith,
@@ -133,4 +185,5 @@ end_fault text h sizes points triangles rest p a c d l e =
       p.vertices,
       p.polygons,
     ))) in
-    subst (HasMeshFault text) (let k : n + 1 ≡ 2 + h.parts + (h.vertices + 1) / 2 + h.polygons = omega (arith, p.polygons) in k) (fault_from text n t.0 t.1 none unread)
+    subst (HasMeshFault text) (let k : n + 1 ≡ 2 + h.parts + (h.vertices + 1) / 2 + h.polygons =
+    omega (arith, p.polygons) in k) (fault_from text n t.0 t.1 none unread)

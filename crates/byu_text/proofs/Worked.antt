@@ -70,8 +70,13 @@ filled-four_digits = record { count = refl; digits = refl }
 -- the surface of two squares, one above the other
 abbrev squares : Surface
 squares = record {
-  vertices = record { x = pos 0; y = pos 0; z = pos 0 } ∷ record { x = pos 10; y = pos 0; z = pos 0 } ∷ record { x = pos 10; y = pos 10; z = pos 0 } ∷ record { x = pos 0; y = pos 10; z = pos 0 } ∷ record { x = pos 0; y = pos 0; z = pos 10 } ∷ record { x = pos 10; y = pos 0; z = pos 10 } ∷ record { x = pos 10; y = pos 10; z = pos 10 } ∷ record { x = pos 0; y = pos 10; z = pos 10 } ∷ [];
-  parts = ((3 ∷ 1 ∷ 0 ∷ []) ∷ (1 ∷ 3 ∷ 2 ∷ []) ∷ (0 ∷ 1 ∷ 4 ∷ []) ∷ (5 ∷ 4 ∷ 1 ∷ []) ∷ (1 ∷ 2 ∷ 5 ∷ []) ∷ (6 ∷ 5 ∷ 2 ∷ []) ∷ (2 ∷ 3 ∷ 6 ∷ []) ∷ (7 ∷ 6 ∷ 3 ∷ []) ∷ (3 ∷ 0 ∷ 7 ∷ []) ∷ (4 ∷ 7 ∷ 0 ∷ []) ∷ (7 ∷ 4 ∷ 5 ∷ []) ∷ (5 ∷ 6 ∷ 7 ∷ []) ∷ []) ∷ [];
+  vertices = record { x = pos 0; y = pos 0; z = pos 0 } ∷ record { x = pos 10; y = pos 0; z = pos 0 }
+      ∷ record { x = pos 10; y = pos 10; z = pos 0 } ∷ record { x = pos 0; y = pos 10; z = pos 0 }
+      ∷ record { x = pos 0; y = pos 0; z = pos 10 } ∷ record { x = pos 10; y = pos 0; z = pos 10 }
+      ∷ record { x = pos 10; y = pos 10; z = pos 10 } ∷ record { x = pos 0; y = pos 10; z = pos 10 } ∷ [];
+  parts = ((3 ∷ 1 ∷ 0 ∷ []) ∷ (1 ∷ 3 ∷ 2 ∷ []) ∷ (0 ∷ 1 ∷ 4 ∷ []) ∷ (5 ∷ 4 ∷ 1 ∷ []) ∷ (1 ∷ 2 ∷ 5 ∷ [])
+      ∷ (6 ∷ 5 ∷ 2 ∷ []) ∷ (2 ∷ 3 ∷ 6 ∷ []) ∷ (7 ∷ 6 ∷ 3 ∷ []) ∷ (3 ∷ 0 ∷ 7 ∷ []) ∷ (4 ∷ 7 ∷ 0 ∷ []) ∷ (7 ∷ 4 ∷ 5 ∷ [])
+      ∷ (5 ∷ 6 ∷ 7 ∷ []) ∷ []) ∷ [];
 }
 
 -- its text of 642 bytes
@@ -103,10 +108,16 @@ squares-written = refl
 -- a single triangle of the greatest coordinates, capped above and below
 abbrev triangle : Surface
 triangle = record {
-  vertices = record { x = negsuc 999998; y = negsuc 999998; z = negsuc 999998 } ∷ record { x = pos 999999; y = negsuc 999998; z = negsuc 999998 } ∷ record { x = pos 0; y = pos 999999; z = negsuc 999998 } ∷ [];
+  vertices = record { x = negsuc 999998; y = negsuc 999998; z = negsuc 999998 }
+      ∷ record { x = pos 999999; y = negsuc 999998; z = negsuc 999998 }
+      ∷ record { x = pos 0; y = pos 999999; z = negsuc 999998 } ∷ [];
   parts = ((0 ∷ 2 ∷ 1 ∷ []) ∷ (0 ∷ 1 ∷ 2 ∷ []) ∷ []) ∷ [];
 }
 
-pub triangle-written : byu_of triangle ≡ codes "       1       3       2       6\n" ++ (codes "       1       2\n" ++ (codes "-9.99999E+05-9.99999E+05-9.99999E+05 9.99999E+05-9.99999E+05-9.99999E+05\n" ++ (codes " 0.00000E+00 9.99999E+05-9.99999E+05\n" ++ (codes "       1       3      -2\n" ++ (codes "       1       2      -3\n")))))
+pub triangle-written : byu_of triangle ≡ codes "       1       3       2       6\n"
+    ++ (codes "       1       2\n" ++ (codes
+    "-9.99999E+05-9.99999E+05-9.99999E+05 9.99999E+05-9.99999E+05-9.99999E+05\n"
+    ++ (codes " 0.00000E+00 9.99999E+05-9.99999E+05\n"
+    ++ (codes "       1       3      -2\n" ++ (codes "       1       2      -3\n")))))
 unfolding digits
 triangle-written = refl

@@ -30,7 +30,8 @@ abbrev pub polygons_of : Surface → List (List ℕ)
 polygons_of s = flat_map (λ part. part) s.parts
 
 abbrev pub lines_with : Counts → List ℕ → List Point → List (List ℕ) → List (List ℕ)
-lines_with h sizes points triangles = mesh_head_line h ∷ (size_lines 1 sizes ++ (point_lines points ++ map polygon_line triangles))
+lines_with h sizes points triangles =
+    mesh_head_line h ∷ (size_lines 1 sizes ++ (point_lines points ++ map polygon_line triangles))
 
 abbrev pub surface_lines : Surface → List (List ℕ)
 surface_lines s = lines_with (head_of s) (sizes_of s) s.vertices (polygons_of s)
@@ -39,7 +40,8 @@ surface_lines s = lines_with (head_of s) (sizes_of s) s.vertices (polygons_of s)
 
 parts_written : (n : ℕ) (parts : List (List (List ℕ))) → concat (size_lines n (map length parts)) ≡ part_ranges n parts
 parts_written n [] = refl
-parts_written n (part ∷ parts) = ap (λ (l : List ℕ). size_line n (length part) ++ l) (parts_written (n + length part) parts)
+parts_written n (part ∷ parts) = ap (λ (l : List ℕ). size_line n (length part) ++ l)
+    (parts_written (n + length part) parts)
 
 vertices_written : (ps : List Point) → concat (point_lines ps) ≡ vertex_lines ps
 vertices_written [] = refl
@@ -50,15 +52,20 @@ pub concat-map : (ts : List (List ℕ)) → concat (map polygon_line ts) ≡ fla
 concat-map [] = refl
 concat-map (t ∷ ts) = ap (λ (l : List ℕ). polygon_line t ++ l) (concat-map ts)
 
-polygons_written : (parts : List (List (List ℕ))) → flat_map polygon_line (flat_map (λ part. part) parts) ≡ flat_map (flat_map polygon_line) parts
+polygons_written : (parts : List (List (List ℕ)))
+    → flat_map polygon_line (flat_map (λ part. part) parts) ≡ flat_map (flat_map polygon_line) parts
 polygons_written [] = refl
-polygons_written (part ∷ parts) = flat_map-append polygon_line part (flat_map (λ part. part) parts) ∙ ap (λ (l : List ℕ). flat_map polygon_line part ++ l) (polygons_written parts)
+polygons_written (part ∷ parts) = flat_map-append polygon_line part (flat_map (λ part. part) parts)
+    ∙ ap (λ (l : List ℕ). flat_map polygon_line part ++ l) (polygons_written parts)
 
 pub concat-lines_with : (h : Counts) (sizes : List ℕ) (points : List Point) (triangles : List (List ℕ)) →
-    concat (lines_with h sizes points triangles) ≡ mesh_head_line h ++ (concat (size_lines 1 sizes) ++ (concat (point_lines points) ++ concat (map polygon_line triangles)))
+    concat (lines_with h sizes points triangles) ≡ mesh_head_line h
+    ++ (concat (size_lines 1 sizes) ++ (concat (point_lines points) ++ concat (map polygon_line triangles)))
 concat-lines_with h sizes points triangles =
-    ap (λ (l : List ℕ). mesh_head_line h ++ l) (concat-append (size_lines 1 sizes) (point_lines points ++ map polygon_line triangles)
-    ∙ ap (λ (l : List ℕ). concat (size_lines 1 sizes) ++ l) (concat-append (point_lines points) (map polygon_line triangles)))
+    ap (λ (l : List ℕ). mesh_head_line h ++ l)
+    (concat-append (size_lines 1 sizes) (point_lines points ++ map polygon_line triangles)
+    ∙ ap (λ (l : List ℕ). concat (size_lines 1 sizes) ++ l)
+    (concat-append (point_lines points) (map polygon_line triangles)))
 
 pub written : (s : Surface) → byu_of s ≡ concat (surface_lines s)
 written s =
@@ -66,17 +73,26 @@ written s =
     let a = parts_written 1 s.parts in
     let b = vertices_written s.vertices in
     let c = concat-map (polygons_of s) ∙ polygons_written s.parts in
-    sym (concat-lines_with (head_of s) (sizes_of s) s.vertices (polygons_of s) ∙ ap₂ (λ (x y : List ℕ). join x y (concat (map polygon_line (polygons_of s)))) a b ∙ ap (join (part_ranges 1 s.parts) (vertex_lines s.vertices)) c)
+    sym (concat-lines_with (head_of s) (sizes_of s) s.vertices (polygons_of s)
+    ∙ ap₂ (λ (x y : List ℕ). join x y (concat (map polygon_line (polygons_of s)))) a b
+    ∙ ap (join (part_ranges 1 s.parts) (vertex_lines s.vertices)) c)
 
 -- ---- what a valid mesh has
 
 pub length-le-sum : (xs : List ℕ) → All (λ n. 1 ≤ n) xs → length xs ≤ sum xs
 length-le-sum [] a = omega arith
-length-le-sum (n ∷ ns) a = omega (arith, sum_by-cons (λ (x : ℕ). x) n ns, All-head (λ n. 1 ≤ n) n ns a, length-le-sum ns (All-tail (λ n. 1 ≤ n) n ns a))
+length-le-sum (n ∷ ns) a = omega (
+  arith,
+  sum_by-cons (λ (x : ℕ). x) n ns,
+  All-head (λ n. 1 ≤ n) n ns a,
+  length-le-sum ns (All-tail (λ n. 1 ≤ n) n ns a),
+)
 
-pub all_flat : (P : List ℕ → Type 0) (parts : List (List (List ℕ))) → All (All P) parts → All P (flat_map (λ part. part) parts)
+pub all_flat : (P : List ℕ → Type 0) (parts : List (List (List ℕ))) → All (All P) parts
+    → All P (flat_map (λ part. part) parts)
 all_flat P [] a = All-nil P
-all_flat P (part ∷ parts) a = All-append P part (flat_map (λ part. part) parts) (All-head (All P) part parts a) (all_flat P parts (All-tail (All P) part parts a))
+all_flat P (part ∷ parts) a = All-append P part (flat_map (λ part. part) parts) (All-head (All P) part parts a)
+    (all_flat P parts (All-tail (All P) part parts a))
 
 -- the pieces of a valid mesh's text
 pub record HasPieces (h : Counts) (sizes : List ℕ) (points : List Point) (triangles : List (List ℕ)) : Type 0 where
@@ -92,10 +108,24 @@ pub record HasPieces (h : Counts) (sizes : List ℕ) (points : List Point) (tria
 pub pieces_of : (s : Surface) → IsMesh s → HasPieces (head_of s) (sizes_of s) s.vertices (polygons_of s)
 pieces_of s m =
     let v = m.valid in
-    let both : All (All (IsKnownTriangle (head_of s))) s.parts = λ k d l k' d' l'. (m.triangles k d l k' d' l', v.known_ids k d l k' d' l') in
+    let both : All (All (IsKnownTriangle (head_of s))) s.parts =
+    λ k d l k' d' l'. (m.triangles k d l k' d' l', v.known_ids k d l k' d' l') in
     let sizes : All (λ n. 1 ≤ n) (sizes_of s) = All-map (λ n. 1 ≤ n) length s.parts v.some_triangle in
     record {
-      head = record { some_part = v.some_part; few_parts = v.few_parts; some_vertex = v.some_vertex; few_vertices = v.few_vertices; enough = omega (arith, length-le-sum (sizes_of s) sizes, length-map s.parts length, sum-map length s.parts); few_polygons = v.few_triangles };
+      head = record {
+        some_part = v.some_part;
+        few_parts = v.few_parts;
+        some_vertex = v.some_vertex;
+        few_vertices =
+            v.few_vertices;
+        enough = omega (
+          arith,
+          length-le-sum (sizes_of s) sizes,
+          length-map s.parts length,
+          sum-map length s.parts,
+        );
+        few_polygons = v.few_triangles;
+      };
       some = sizes;
       parts = length-map s.parts length;
       sum = sum-map length s.parts;
@@ -107,7 +137,8 @@ pieces_of s m =
 
 -- ---- each of them is a line
 
-pub sizes_are : (next : ℕ) (sizes : List ℕ) → next + sum sizes ≤ 10000000 → AllByRecursion IsLine (size_lines next sizes)
+pub sizes_are : (next : ℕ) (sizes : List ℕ) → next + sum sizes ≤ 10000000
+    → AllByRecursion IsLine (size_lines next sizes)
 sizes_are next [] l = tt
 sizes_are next (n ∷ ns) l =
     let s = sum_by-cons (λ (x : ℕ). x) n ns in
@@ -116,18 +147,28 @@ sizes_are next (n ∷ ns) l =
 pub points_are : (ps : List Point) → All IsInRange ps → AllByRecursion IsLine (point_lines ps)
 points_are [] a = tt
 points_are (p ∷ []) a = (point_line_is (p ∷ []) a, tt)
-points_are (p ∷ q ∷ ps) a = (point_line_is (p ∷ q ∷ []) (All-take IsInRange 2 (p ∷ q ∷ ps) a), points_are ps (All-drop IsInRange 2 (p ∷ q ∷ ps) a))
+points_are (p ∷ q ∷ ps) a = (
+  point_line_is (p ∷ q ∷ []) (All-take IsInRange 2 (p ∷ q ∷ ps) a),
+  points_are ps (All-drop IsInRange 2 (p ∷ q ∷ ps) a),
+)
 
-pub triangles_are : (h : Counts) → AreMeshCounts h → (ts : List (List ℕ)) → All (IsKnownTriangle h) ts → AllByRecursion IsLine (map polygon_line ts)
+pub triangles_are : (h : Counts) → AreMeshCounts h → (ts : List (List ℕ)) → All (IsKnownTriangle h) ts
+    → AllByRecursion IsLine (map polygon_line ts)
 triangles_are h i [] a = tt
-triangles_are h i (t ∷ ts) a = (triangle_is h t i (All-head (IsKnownTriangle h) t ts a), triangles_are h i ts (All-tail (IsKnownTriangle h) t ts a))
+triangles_are h i (t ∷ ts) a = (
+  triangle_is h t i (All-head (IsKnownTriangle h) t ts a),
+  triangles_are h i ts (All-tail (IsKnownTriangle h) t ts a),
+)
 
-pub lines_are : (h : Counts) (sizes : List ℕ) (points : List Point) (triangles : List (List ℕ)) → HasPieces h sizes points triangles → AllByRecursion IsLine (lines_with h sizes points triangles)
+pub lines_are : (h : Counts) (sizes : List ℕ) (points : List Point) (triangles : List (List ℕ))
+    → HasPieces h sizes points triangles → AllByRecursion IsLine (lines_with h sizes points triangles)
 lines_are h sizes points triangles p =
     let few = p.head.few_polygons in (
       head_is h p.head,
-      all_join IsLine (size_lines 1 sizes) (point_lines points ++ map polygon_line triangles) (sizes_are 1 sizes (omega (arith, p.sum)))
-          (all_join IsLine (point_lines points) (map polygon_line triangles) (points_are points p.range) (triangles_are h p.head triangles p.known)),
+      all_join IsLine (size_lines 1 sizes) (point_lines points ++ map polygon_line triangles)
+          (sizes_are 1 sizes (omega (arith, p.sum)))
+          (all_join IsLine (point_lines points) (map polygon_line triangles) (points_are points p.range)
+          (triangles_are h p.head triangles p.known)),
     )
 
 pub mesh_lines_are : (s : Surface) → IsMesh s → AllByRecursion IsLine (surface_lines s)
@@ -147,10 +188,20 @@ length-point_lines (p ∷ q ∷ ps) = omega (arith, length-point_lines ps)
 unfoldable pub line_count : Counts → ℕ
 line_count h = 1 + (h.parts + ((h.vertices + 1) / 2 + h.polygons))
 
-pub length-lines_with : (h : Counts) (sizes : List ℕ) (points : List Point) (triangles : List (List ℕ)) → length sizes ≡ h.parts → length points ≡ h.vertices → length triangles ≡ h.polygons → length (lines_with h sizes points triangles) ≡ line_count h
+pub length-lines_with : (h : Counts) (sizes : List ℕ) (points : List Point) (triangles : List (List ℕ))
+    → length sizes ≡ h.parts → length points ≡ h.vertices → length triangles ≡ h.polygons
+    → length (lines_with h sizes points triangles) ≡ line_count h
 unfolding line_count
 length-lines_with h sizes points triangles a b c =
-    omega (arith, length-append (size_lines 1 sizes) (point_lines points ++ map polygon_line triangles), length-append (point_lines points) (map polygon_line triangles), length-size_lines 1 sizes, length-point_lines points, length-map triangles polygon_line)
+    omega (
+      arith,
+      length-append (size_lines 1 sizes) (point_lines points ++ map polygon_line triangles),
+      length-append (point_lines points) (map polygon_line triangles),
+      length-size_lines 1 sizes,
+      length-point_lines points,
+      length-map triangles polygon_line,
+    )
 
 pub length-surface_lines : (s : Surface) → IsMesh s → length (surface_lines s) ≡ line_count (head_of s)
-length-surface_lines s m = let p = pieces_of s m in length-lines_with (head_of s) (sizes_of s) s.vertices (polygons_of s) p.parts p.vertices p.polygons
+length-surface_lines s m = let p = pieces_of s m in
+    length-lines_with (head_of s) (sizes_of s) s.vertices (polygons_of s) p.parts p.vertices p.polygons

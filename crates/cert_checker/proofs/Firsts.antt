@@ -7,7 +7,8 @@ use Rattle.cert_checker.specs.declared.checking.Place.{Place}
 use Rattle.cert_checker.specs.Steps.{IsFirstInRow}
 
 -- one column further, where both steps from the column are good
-pub one_column : (Good : ℕ → Step → Type 0) (c : ℕ) → ((k : ℕ) (s : Step) → k < c → Good k s) → Good c V → Good c H → (k : ℕ) (s : Step) → k < c + 1 → Good k s
+pub one_column : (Good : ℕ → Step → Type 0) (c : ℕ) → ((k : ℕ) (s : Step) → k < c → Good k s) → Good c V → Good c H
+    → (k : ℕ) (s : Step) → k < c + 1 → Good k s
 one_column Good c before v h k s lt =
     elim (cases_lt k c) [
       | inl less ↦ before k s less
@@ -19,13 +20,17 @@ one_column Good c before v h k s lt =
     both H = h
 
 -- H is the first of a row where all columns before it, and V, are good
-pub first_h : (Good : ℕ → Step → Type 0) (c : ℕ) → ((k : ℕ) (s : Step) → k < c → Good k s) → Good c V → (Good c H → ⊥) → IsFirstInRow Good c H
+pub first_h : (Good : ℕ → Step → Type 0) (c : ℕ) → ((k : ℕ) (s : Step) → k < c → Good k s) → Good c V → (Good c H → ⊥)
+    → IsFirstInRow Good c H
 first_h Good c before v wrong = record {
   fails = wrong;
   first = λ j s b. elim b [ inl less ↦ before j s less | inr e ↦ subst₂ Good (sym e.0) (sym e.1) v ];
 }
 
 -- the first of a row by two equivalent conditions
-pub same_first : (A B : ℕ → Step → Type 0) (row : ℕ) (o : Option Place) → ((j : ℕ) (s : Step) → A j s ↔ B j s) → MatchOption o ((j : ℕ) (s : Step) → A j s) (λ p. p.row ≡ row × IsFirstInRow A p.col p.step) → MatchOption o ((j : ℕ) (s : Step) → B j s) (λ p. p.row ≡ row × IsFirstInRow B p.col p.step)
-same_first A B row (Some p) same m = (m.0, record { fails = λ b. m.1.fails ((same p.col p.step).1 b); first = λ j s b. (same j s).0 (m.1.first j s b) })
+pub same_first : (A B : ℕ → Step → Type 0) (row : ℕ) (o : Option Place) → ((j : ℕ) (s : Step) → A j s ↔ B j s)
+    → MatchOption o ((j : ℕ) (s : Step) → A j s) (λ p. p.row ≡ row × IsFirstInRow A p.col p.step)
+    → MatchOption o ((j : ℕ) (s : Step) → B j s) (λ p. p.row ≡ row × IsFirstInRow B p.col p.step)
+same_first A B row (Some p) same m =
+    (m.0, record { fails = λ b. m.1.fails ((same p.col p.step).1 b); first = λ j s b. (same j s).0 (m.1.first j s b) })
 same_first A B row None same m = λ j s. (same j s).0 (m j s)

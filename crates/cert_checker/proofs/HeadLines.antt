@@ -6,7 +6,8 @@ use Rattle.cert_checker.specs.CertTexts.{CertHead, named, head_line}
 use Rattle.cert_checker.specs.LineSteps.{HasNumberAfter, NoneNamed}
 
 -- the number that was read after a keyword is the only one
-pub named_one : (ws : Line) (k : List ℕ) (z : ℤ) (more : Line) (k' : List ℕ) (z' : ℤ) (ps : List Word) → HasNumberAfter ws k z more → Matches ws (text k' ∷ number z' ∷ ps) → (z' ≡ z) × Matches more ps
+pub named_one : (ws : Line) (k : List ℕ) (z : ℤ) (more : Line) (k' : List ℕ) (z' : ℤ) (ps : List Word)
+    → HasNumberAfter ws k z more → Matches ws (text k' ∷ number z' ∷ ps) → (z' ≡ z) × Matches more ps
 named_one ws k z more k' z' ps n m =
     let h = subst (λ (x : Line). Matches x (text k' ∷ number z' ∷ ps)) n.words m in
     let e : Some z' ≡ Some z = sym h.1.0 ∙ n.says in
@@ -18,15 +19,23 @@ pub record NamedRest (ws : Line) (k : List ℕ) (z : ℤ) (ps : List Word) : Typ
   pub named : HasNumberAfter ws k z more
   pub rest : Matches more ps
 
-pub named_is : (ws : Line) (k : List ℕ) (z : ℤ) (ps : List Word) → Matches ws (text k ∷ number z ∷ ps) → NamedRest ws k z ps
+pub named_is : (ws : Line) (k : List ℕ) (z : ℤ) (ps : List Word) → Matches ws (text k ∷ number z ∷ ps)
+    → NamedRest ws k z ps
 named_is [] k z ps m = absurd m
 named_is (a ∷ []) k z ps m = absurd m.1
-named_is (a ∷ b ∷ more) k z ps m = record { more = more; named = record { word = b; words = ap (λ (x : List ℕ). x ∷ b ∷ more) m.0; says = m.1.0 }; rest = m.1.1 }
+named_is (a ∷ b ∷ more) k z ps m =
+    record {
+      more = more;
+      named = record { word = b; words = ap (λ (x : List ℕ). x ∷ b ∷ more) m.0; says = m.1.0 };
+      rest = m.1.1;
+    }
 
-pub named_tail : (ws : Line) (k : List ℕ) (z : ℤ) (more : Line) (z' : ℤ) (ps : List Word) → HasNumberAfter ws k z more → Matches ws (text k ∷ number z' ∷ ps) → Matches more ps
+pub named_tail : (ws : Line) (k : List ℕ) (z : ℤ) (more : Line) (z' : ℤ) (ps : List Word) → HasNumberAfter ws k z more
+    → Matches ws (text k ∷ number z' ∷ ps) → Matches more ps
 named_tail ws k z more z' ps n m = (named_one ws k z more k z' ps n m).1
 
-pub named_none : (P : ℤ → Type 0) (ws : Line) (k : List ℕ) (z : ℤ) (ps : List Word) → NoneNamed P ws k → P z → Matches ws (text k ∷ number z ∷ ps) → ⊥
+pub named_none : (P : ℤ → Type 0) (ws : Line) (k : List ℕ) (z : ℤ) (ps : List Word) → NoneNamed P ws k → P z
+    → Matches ws (text k ∷ number z ∷ ps) → ⊥
 named_none P ws k z ps none p m = let a = named_is ws k z ps m in none z a.more p a.named
 
 -- the words of a first line from each number on
@@ -54,11 +63,14 @@ head_one ws h g m m' =
     let a1 = named_is ws (codes "CERT") (pos 1) (from_pair h) m in
     let b1 = named_one ws (codes "CERT") (pos 1) a1.more (codes "CERT") (pos 1) (from_pair g) a1.named m' in
     let a2 = named_is a1.more (codes "PAIR") (pos h.pair) (from_rows h) a1.rest in
-    let b2 = named_one a1.more (codes "PAIR") (pos h.pair) a2.more (codes "PAIR") (pos g.pair) (from_rows g) a2.named b1.1 in
+    let b2 = named_one a1.more (codes "PAIR") (pos h.pair) a2.more (codes "PAIR") (pos g.pair) (from_rows g) a2.named
+    b1.1 in
     let a3 = named_is a2.more (codes "ROWS") (pos h.rows) (from_cols h) a2.rest in
-    let b3 = named_one a2.more (codes "ROWS") (pos h.rows) a3.more (codes "ROWS") (pos g.rows) (from_cols g) a3.named b2.1 in
+    let b3 = named_one a2.more (codes "ROWS") (pos h.rows) a3.more (codes "ROWS") (pos g.rows) (from_cols g) a3.named
+    b2.1 in
     let a4 = named_is a3.more (codes "COLS") (pos h.cols) (from_cost h) a3.rest in
-    let b4 = named_one a3.more (codes "COLS") (pos h.cols) a4.more (codes "COLS") (pos g.cols) (from_cost g) a4.named b3.1 in
+    let b4 = named_one a3.more (codes "COLS") (pos h.cols) a4.more (codes "COLS") (pos g.cols) (from_cost g) a4.named
+    b3.1 in
     let a5 = named_is a4.more (codes "COST") h.cost (from_start h) a4.rest in
     let b5 = named_one a4.more (codes "COST") h.cost a5.more (codes "COST") g.cost (from_start g) a5.named b4.1 in
     let a6 = named_is a5.more (codes "START") (pos h.start) [] a5.rest in

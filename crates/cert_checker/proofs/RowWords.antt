@@ -19,17 +19,27 @@ pub record RowSoFar (old new : List ℤ) (all rest : Line) (count : ℕ) : Type 
   pub back : (zs : List ℤ) → Matches rest (row_line zs) → Matches all (row_line (row ++ zs))
 
 pub row_none : (old : List ℤ) (all : Line) → RowSoFar old old all all 0
-row_none old all = record { row = []; put = sym (append-nil old); counted = refl; modest = All-nil IsModest; only = λ xs m. (xs, refl, m); back = λ zs m. m }
+row_none old all = record {
+  row = [];
+  put = sym (append-nil old);
+  counted = refl;
+  modest = All-nil IsModest;
+  only =
+      λ xs m. (xs, refl, m);
+  back = λ zs m. m;
+}
 
 -- the numbers that words begin with
-first_is : (w : List ℕ) (more : Line) (z : ℤ) (zs : List ℤ) → number_of w ≡ Some z → Matches (w ∷ more) (row_line zs) → (ys : List ℤ) × (zs ≡ z ∷ ys) × Matches more (row_line ys)
+first_is : (w : List ℕ) (more : Line) (z : ℤ) (zs : List ℤ) → number_of w ≡ Some z → Matches (w ∷ more) (row_line zs)
+    → (ys : List ℤ) × (zs ≡ z ∷ ys) × Matches more (row_line ys)
 first_is w more z [] e m = absurd m
 first_is w more z (y ∷ ys) e m =
     let f : Some y ≡ Some z = sym m.0 ∙ e in
     let g : y ≡ z = cc in
     (ys, ap (λ (x : ℤ). x ∷ ys) g, m.1)
 
-more_put : (old new new' : List ℤ) (all : Line) (w : List ℕ) (more rest : Line) (count : ℕ) (z : ℤ) → rest ≡ w ∷ more → IsValue w z → new' ≡ new ++ z ∷ [] → RowSoFar old new all rest count → RowSoFar old new' all more (count + 1)
+more_put : (old new new' : List ℤ) (all : Line) (w : List ℕ) (more rest : Line) (count : ℕ) (z : ℤ) → rest ≡ w ∷ more
+    → IsValue w z → new' ≡ new ++ z ∷ [] → RowSoFar old new all rest count → RowSoFar old new' all more (count + 1)
 more_put old new new' all w more rest count z e v n r =
     record {
       row = r.row ++ z ∷ [];
@@ -46,11 +56,17 @@ more_put old new new' all w more rest count z e v n r =
     }
 
 -- one more number
-pub row_more : (old new new' : List ℤ) (all : Line) (line : List ℕ) (at first end count : ℕ) (z : ℤ) → IsWordAt line at first end → IsValue (slice_range line first end) z → new' ≡ new ++ z ∷ [] → RowSoFar old new all (words (drop at line)) count → RowSoFar old new' all (words (drop end line)) (count + 1)
-row_more old new new' all line at first end count z w v n r = more_put old new new' all (slice_range line first end) (words (drop end line)) (words (drop at line)) count z w.words v n r
+pub row_more : (old new new' : List ℤ) (all : Line) (line : List ℕ) (at first end count : ℕ) (z : ℤ)
+    → IsWordAt line at first end → IsValue (slice_range line first end) z → new' ≡ new ++ z ∷ []
+    → RowSoFar old new all (words (drop at line)) count → RowSoFar old new' all (words (drop end line)) (count + 1)
+row_more old new new' all line at first end count z w v n r =
+    more_put old new new' all (slice_range line first end) (words (drop end line)) (words (drop at line)) count z
+    w.words v n r
 
 -- a word is not a number that a row may have
-wrong_from : (old new : List ℤ) (all rest : Line) (count width : ℕ) (w : List ℕ) (more : Line) → RowSoFar old new all rest count → rest ≡ w ∷ more → count < width → ((z : ℤ) → IsValue w z → ⊥) → (row : List ℤ) → IsValueRow width row → Matches all (row_line row) → ⊥
+wrong_from : (old new : List ℤ) (all rest : Line) (count width : ℕ) (w : List ℕ) (more : Line)
+    → RowSoFar old new all rest count → rest ≡ w ∷ more → count < width → ((z : ℤ) → IsValue w z → ⊥) → (row : List ℤ)
+    → IsValueRow width row → Matches all (row_line row) → ⊥
 wrong_from old new all rest count width w more r e lt none row is m =
     let a = r.only row m in
     first_wrong a.0 a.1 (subst (λ (ws : Line). Matches ws (row_line a.0)) e a.2)
@@ -58,19 +74,27 @@ wrong_from old new all rest count width w more r e lt none row is m =
     first_wrong : (zs : List ℤ) → row ≡ r.row ++ zs → Matches (w ∷ more) (row_line zs) → ⊥
     first_wrong [] f g = g
     first_wrong (z ∷ zs) f g =
-        let here : get_or row count z ≡ z = ap (λ (xs : List ℤ). get_or xs count z) f ∙ get_or_at r.row z zs z count r.counted in
+        let here : get_or row count z ≡ z = ap (λ (xs : List ℤ). get_or xs count z) f
+        ∙ get_or_at r.row z zs z count r.counted in
         let inside : count < length row = omega (arith, is.0, lt) in
         none z (g.0, subst IsModest here (All-get_or IsModest row count z inside is.1))
 
-pub row_wrong : (old new : List ℤ) (all : Line) (line : List ℕ) (at first end count width : ℕ) → RowSoFar old new all (words (drop at line)) count → IsWordAt line at first end → count < width → ((z : ℤ) → IsValue (slice_range line first end) z → ⊥) → (row : List ℤ) → IsValueRow width row → Matches all (row_line row) → ⊥
-row_wrong old new all line at first end count width r w lt none = wrong_from old new all (words (drop at line)) count width (slice_range line first end) (words (drop end line)) r w.words lt none
+pub row_wrong : (old new : List ℤ) (all : Line) (line : List ℕ) (at first end count width : ℕ)
+    → RowSoFar old new all (words (drop at line)) count → IsWordAt line at first end → count < width
+    → ((z : ℤ) → IsValue (slice_range line first end) z → ⊥) → (row : List ℤ) → IsValueRow width row
+    → Matches all (row_line row) → ⊥
+row_wrong old new all line at first end count width r w lt none =
+    wrong_from old new all (words (drop at line)) count width (slice_range line first end) (words (drop end line)) r
+    w.words lt none
 
 -- the whole row was read
-pub row_whole : (old new : List ℤ) (all rest : Line) (count width : ℕ) → RowSoFar old new all rest count → rest ≡ [] → count ≡ width → PutsRow all width old new
+pub row_whole : (old new : List ℤ) (all rest : Line) (count width : ℕ) → RowSoFar old new all rest count → rest ≡ []
+    → count ≡ width → PutsRow all width old new
 row_whole old new all rest count width r e n =
     record {
       row = r.row;
       put = r.put;
       is_row = (r.counted ∙ n, r.modest);
-      match = subst (λ (xs : List ℤ). Matches all (row_line xs)) (append-nil r.row) (r.back [] (subst (λ (ws : Line). Matches ws []) (sym e) tt));
+      match = subst (λ (xs : List ℤ). Matches all (row_line xs)) (append-nil r.row)
+          (r.back [] (subst (λ (ws : Line). Matches ws []) (sym e) tt));
     }

@@ -38,15 +38,20 @@ row_one (w ∷ ws) (x ∷ xs) (y ∷ ys) m n =
     let f : x ≡ y = cc in
     ap₂ (λ (z : ℤ) (zs : List ℤ). z ∷ zs) f (row_one ws xs ys m.1 n.1)
 
-rows_one : (ls : List Line) (rs ss : List (List ℤ)) → length rs ≡ length ss → AllZip Matches ls (map row_line rs ++ certificate_end ∷ []) → AllZip Matches ls (map row_line ss ++ certificate_end ∷ []) → rs ≡ ss
+rows_one : (ls : List Line) (rs ss : List (List ℤ)) → length rs ≡ length ss
+    → AllZip Matches ls (map row_line rs ++ certificate_end ∷ [])
+    → AllZip Matches ls (map row_line ss ++ certificate_end ∷ []) → rs ≡ ss
 rows_one ls [] [] n z y = refl
 rows_one ls [] (s ∷ ss) n z y = absurd (omega (arith, n))
 rows_one ls (r ∷ rs) [] n z y = absurd (omega (arith, n))
 rows_one [] (r ∷ rs) (s ∷ ss) n z y = absurd z
-rows_one (l ∷ ls) (r ∷ rs) (s ∷ ss) n z y = ap₂ (λ (q : List ℤ) (qs : List (List ℤ)). q ∷ qs) (row_one l r s z.0 y.0) (rows_one ls rs ss (omega (arith, n)) z.1 y.1)
+rows_one (l ∷ ls) (r ∷ rs) (s ∷ ss) n z y =
+    ap₂ (λ (q : List ℤ) (qs : List (List ℤ)). q ∷ qs) (row_one l r s z.0 y.0)
+    (rows_one ls rs ss (omega (arith, n)) z.1 y.1)
 
 -- lines are those of one certificate at most
-pub cert_one : (ls : List Line) (C D : CertParts) → IsLawfulCertificate C → IsLawfulCertificate D → AllZip Matches ls (cert_lines C) → AllZip Matches ls (cert_lines D) → C ≡ D
+pub cert_one : (ls : List Line) (C D : CertParts) → IsLawfulCertificate C → IsLawfulCertificate D
+    → AllZip Matches ls (cert_lines C) → AllZip Matches ls (cert_lines D) → C ≡ D
 cert_one [] C D l k z y = absurd z
 cert_one (a ∷ []) C D l k z y = absurd z.1
 cert_one (a ∷ [] ∷ ls) C D l k z y = absurd z.1.0
@@ -56,11 +61,17 @@ cert_one (a ∷ (b ∷ c ∷ more) ∷ ls) C D l k z y =
     let word : C.word ≡ D.word = letters_one C.word D.word (sym z.1.0.1.0 ∙ y.1.0.1.0) in
     let width = λ (h : CertHead). h.cols + 1 in
     let count = λ (h : CertHead). 2 * h.rows in
-    let there : rows_in (width C.head) (count C.head) D.values ≡ rows_in (width D.head) (count D.head) D.values = ap (λ (h : CertHead). rows_in (width h) (count h) D.values) head in
+    let there : rows_in (width C.head) (count C.head) D.values ≡ rows_in (width D.head) (count D.head) D.values =
+    ap (λ (h : CertHead). rows_in (width h) (count h) D.values) head in
     let rows : rows_in (width C.head) (count C.head) C.values ≡ rows_in (width C.head) (count C.head) D.values =
     rows_one ls (rows_in (width C.head) (count C.head) C.values) (rows_in (width C.head) (count C.head) D.values)
-    (omega (arith, rows_count (width C.head) (count C.head) C.values, rows_count (width C.head) (count C.head) D.values))
-    z.1.1 (subst (λ (rs : List (List ℤ)). AllZip Matches ls (map row_line rs ++ certificate_end ∷ [])) (sym there) y.1.1) in
+    (omega (
+      arith,
+      rows_count (width C.head) (count C.head) C.values,
+      rows_count (width C.head) (count C.head) D.values,
+    ))
+    z.1.1 (subst (λ (rs : List (List ℤ)). AllZip Matches ls (map row_line rs ++ certificate_end ∷ [])) (sym there)
+    y.1.1) in
     let values : C.values ≡ D.values =
     sym (rows_joined (width C.head) (count C.head) C.values l.count)
     ∙ ap (flat_map (λ (r : List ℤ). r)) (rows ∙ there)
@@ -80,7 +91,14 @@ record Parted (xs : List Line) (front : List (List Word)) : Type 0 where
 parted : (xs ys : List Line) (front : List (List Word)) → AllZip Matches (xs ++ ys) front → Parted xs front
 parted [] ys front z = record { here = []; there = front; split = refl; match = tt }
 parted (x ∷ xs) ys [] z = absurd z
-parted (x ∷ xs) ys (f ∷ fs) z = let p = parted xs ys fs z.1 in record { here = f ∷ p.here; there = p.there; split = ap (λ (ls : List (List Word)). f ∷ ls) p.split; match = (z.0, p.match) }
+parted (x ∷ xs) ys (f ∷ fs) z = let p = parted xs ys fs z.1 in
+    record {
+      here = f ∷ p.here;
+      there = p.there;
+      split = ap (λ (ls : List (List Word)). f ∷ ls) p.split;
+      match =
+          (z.0, p.match);
+    }
 
 pub begins_front : (xs ys : List Line) → BeginsCertificate (xs ++ ys) → BeginsCertificate xs
 begins_front xs ys b =
@@ -98,10 +116,12 @@ begins_front xs ys b =
 fault_stops : (kept : List Kept) (n : ℕ) → IsAtFault kept n → BeginsCertificate (lines_of kept) → ⊥
 fault_stops kept n f b =
     let lines : lines_of kept ≡ (lines_of f.before ++ f.line ∷ []) ++ lines_of f.after =
-    ap lines_of f.split ∙ map-append (λ (k : Kept). k.1) f.before ((n, f.line) ∷ f.after) ∙ sym (append_assoc (lines_of f.before) (f.line ∷ []) (lines_of f.after)) in
+    ap lines_of f.split ∙ map-append (λ (k : Kept). k.1) f.before ((n, f.line) ∷ f.after)
+    ∙ sym (append_assoc (lines_of f.before) (f.line ∷ []) (lines_of f.after)) in
     f.none (begins_front (lines_of f.before ++ f.line ∷ []) (lines_of f.after) (subst BeginsCertificate lines b))
 
-pub no_fault : (kept : List Kept) (last n : ℕ) (C : CertParts) → ReadsAsCertificate kept C → HasCertificateFault kept last n → ⊥
+pub no_fault : (kept : List Kept) (last n : ℕ) (C : CertParts) → ReadsAsCertificate kept C
+    → HasCertificateFault kept last n → ⊥
 no_fault kept last n C r h =
     elim h [
       | inl f ↦ fault_stops kept n f (begins_whole C r.lawful (lines_of kept) r.match)
@@ -129,10 +149,12 @@ places (a ∷ xs) (b ∷ ys) x y ps qs e =
     subst (λ (k : Kept). Places (a ∷ xs) (k ∷ ys) x y) f (one_further a xs ys x y (places xs ys x y ps qs g))
 
 -- no front of lines that begin a certificate has a line at fault
-no_later : (before : List Kept) (n : ℕ) (line : Line) (ys zs : List Kept) → ys ≡ before ++ (n, line) ∷ zs → (BeginsCertificate (lines_of before ++ line ∷ []) → ⊥) → BeginsCertificate (lines_of ys) → ⊥
+no_later : (before : List Kept) (n : ℕ) (line : Line) (ys zs : List Kept) → ys ≡ before ++ (n, line) ∷ zs
+    → (BeginsCertificate (lines_of before ++ line ∷ []) → ⊥) → BeginsCertificate (lines_of ys) → ⊥
 no_later before n line ys zs e none b =
     let lines : lines_of ys ≡ (lines_of before ++ line ∷ []) ++ lines_of zs =
-    ap lines_of e ∙ map-append (λ (k : Kept). k.1) before ((n, line) ∷ zs) ∙ sym (append_assoc (lines_of before) (line ∷ []) (lines_of zs)) in
+    ap lines_of e ∙ map-append (λ (k : Kept). k.1) before ((n, line) ∷ zs)
+    ∙ sym (append_assoc (lines_of before) (line ∷ []) (lines_of zs)) in
     none (begins_front (lines_of before ++ line ∷ []) (lines_of zs) (subst BeginsCertificate lines b))
 
 lines_at_fault : (kept : List Kept) (m n : ℕ) → IsAtFault kept m → IsAtFault kept n → m ≡ n
@@ -143,7 +165,8 @@ lines_at_fault kept m n f g =
       | second zs e ↦ absurd (no_later g.before n g.line f.before zs e g.none f.begins)
     ]
 
-pub one_fault : (kept : List Kept) (last m n : ℕ) → HasCertificateFault kept last m → HasCertificateFault kept last n → m ≡ n
+pub one_fault : (kept : List Kept) (last m n : ℕ) → HasCertificateFault kept last m → HasCertificateFault kept last n
+    → m ≡ n
 one_fault kept last m n (inl f) (inl g) = lines_at_fault kept m n f g
 one_fault kept last m n (inl f) (inr t) = absurd (fault_stops kept m f t.begins)
 one_fault kept last m n (inr s) (inl g) = absurd (fault_stops kept n g s.begins)

@@ -11,4 +11,9 @@ pub record TextsRest (ws : Line) (k t : List ℕ) (ps : List Word) : Type 0 wher
 pub texts_are : (ws : Line) (k t : List ℕ) (ps : List Word) → Matches ws (text k ∷ text t ∷ ps) → TextsRest ws k t ps
 texts_are [] k t ps m = absurd m
 texts_are (a ∷ []) k t ps m = absurd m.1
-texts_are (a ∷ b ∷ more) k t ps m = record { more = more; words = ap (λ (x : List ℕ). x ∷ b ∷ more) m.0 ∙ ap (λ (x : List ℕ). k ∷ x ∷ more) m.1.0; rest = m.1.1 }
+texts_are (a ∷ b ∷ more) k t ps m =
+    record {
+      more = more;
+      words = ap (λ (x : List ℕ). x ∷ b ∷ more) m.0 ∙ ap (λ (x : List ℕ). k ∷ x ∷ more) m.1.0;
+      rest = m.1.1;
+    }

@@ -20,8 +20,16 @@ use Rattle.cert_checker.specs.declared.certs.Verdict.TheVariants.{Accept, Size, 
 use Rattle.cert_checker.specs.Verdicts.{FitsPair, ComesBefore, IsVerdict}
 
 -- a certificate of 4 columns, wherever its lists lie
-abbrev cert : Vec ℤ Global → ℕ → ℕ → (w : List Step) → T (ltb (length w) (2 ^ 63)) → (pi : List ℤ) → T (ltb (length pi) (2 ^ 63)) → Cert
-cert v rows cost w few pi few' = record { rows = rows; cols = 4; cost = pos cost; tiling = record { row = 0; word = list_at v w few }; pi = list_at v pi few' }
+abbrev cert : Vec ℤ Global → ℕ → ℕ → (w : List Step) → T (ltb (length w) (2 ^ 63)) → (pi : List ℤ)
+    → T (ltb (length pi) (2 ^ 63)) → Cert
+cert v rows cost w few pi few' = record {
+  rows = rows;
+  cols = 4;
+  cost = pos cost;
+  tiling = record { row = 0; word = list_at v w few };
+  pi =
+      list_at v pi few';
+}
 
 abbrev word : List Step
 word = V ∷ H ∷ V ∷ H ∷ V ∷ H ∷ V ∷ H ∷ []
@@ -29,7 +37,10 @@ word = V ∷ H ∷ V ∷ H ∷ V ∷ H ∷ V ∷ H ∷ []
 -- the numbers, with one of their own at row 1 and column 1
 abbrev numbers : ℕ → List ℤ
 numbers x =
-    pos 0 ∷ pos 200 ∷ pos 500 ∷ pos 700 ∷ pos 800 ∷ pos 200 ∷ pos x ∷ pos 500 ∷ pos 800 ∷ pos 1000 ∷ pos 300 ∷ pos 500 ∷ pos 600 ∷ pos 800 ∷ pos 1100 ∷ pos 500 ∷ pos 800 ∷ pos 800 ∷ pos 900 ∷ pos 1100 ∷ pos 600 ∷ pos 800 ∷ pos 1100 ∷ pos 1100 ∷ pos 1200 ∷ pos 800 ∷ pos 900 ∷ pos 1100 ∷ pos 1400 ∷ pos 1400 ∷ pos 1100 ∷ pos 1100 ∷ pos 1200 ∷ pos 1400 ∷ pos 1700 ∷ pos 1300 ∷ pos 1400 ∷ pos 1400 ∷ pos 1500 ∷ pos 1700 ∷ []
+    pos 0 ∷ pos 200 ∷ pos 500 ∷ pos 700 ∷ pos 800 ∷ pos 200 ∷ pos x ∷ pos 500 ∷ pos 800 ∷ pos 1000 ∷ pos 300 ∷ pos 500
+    ∷ pos 600 ∷ pos 800 ∷ pos 1100 ∷ pos 500 ∷ pos 800 ∷ pos 800 ∷ pos 900 ∷ pos 1100 ∷ pos 600 ∷ pos 800 ∷ pos 1100
+    ∷ pos 1100 ∷ pos 1200 ∷ pos 800 ∷ pos 900 ∷ pos 1100 ∷ pos 1400 ∷ pos 1400 ∷ pos 1100 ∷ pos 1100 ∷ pos 1200
+    ∷ pos 1400 ∷ pos 1700 ∷ pos 1300 ∷ pos 1400 ∷ pos 1400 ∷ pos 1500 ∷ pos 1700 ∷ []
 
 abbrev zeros : ℕ → List ℤ
 zeros zero = []
@@ -42,9 +53,12 @@ v_holds pi r c = le_z (value_at 4 pi (r + 1) c -ℤ value_at 4 pi r c) (pos (arc
 abbrev h_holds : List ℤ → ℕ → ℕ → Bool
 h_holds pi r c = le_z (value_at 4 pi r (c + 1) -ℤ value_at 4 pi r c) (pos (arcs squares r c H))
 
-all_steps : (pi : List ℤ) → T (passes 7 (λ r. passes 5 (v_holds pi r))) → T (passes 8 (λ r. passes 4 (h_holds pi r))) → (i j : ℕ) (s : Step) → StepHolds (arcs squares) 4 4 pi i j s
-all_steps pi v h i j V = λ lt le. le_z_yes (passes_at 5 (v_holds pi i) (passes_at 7 (λ r. passes 5 (v_holds pi r)) v i (omega arith)) j (omega arith))
-all_steps pi v h i j H = λ lt less. le_z_yes (passes_at 4 (h_holds pi i) (passes_at 8 (λ r. passes 4 (h_holds pi r)) h i (omega arith)) j less)
+all_steps : (pi : List ℤ) → T (passes 7 (λ r. passes 5 (v_holds pi r))) → T (passes 8 (λ r. passes 4 (h_holds pi r)))
+    → (i j : ℕ) (s : Step) → StepHolds (arcs squares) 4 4 pi i j s
+all_steps pi v h i j V = λ lt le. le_z_yes
+    (passes_at 5 (v_holds pi i) (passes_at 7 (λ r. passes 5 (v_holds pi r)) v i (omega arith)) j (omega arith))
+all_steps pi v h i j H = λ lt less.
+    le_z_yes (passes_at 4 (h_holds pi i) (passes_at 8 (λ r. passes 4 (h_holds pi r)) h i (omega arith)) j less)
 
 -- whether once round from a row raises the numbers by at least the cost
 abbrev gains : List ℤ → ℕ → ℕ → Bool
@@ -56,8 +70,11 @@ all_turns pi cost t i = λ lt. le_z_yes (passes_at 4 (gains pi cost) t i lt)
 goes_round : IsAcceptable 4 4 0 0 word
 goes_round = record { row = lit< tt; col = lit< tt; letters = record { v = refl; h = refl } }
 
-fits : (v : Vec ℤ Global) (cost : ℕ) (w : List Step) (few : T (ltb (length w) (2 ^ 63))) (pi : List ℤ) (few' : T (ltb (length pi) (2 ^ 63))) → length pi ≡ 40 → T (leb cost (10 ^ 36)) → T (are_modest pi) → FitsPair squares (cert v 4 cost w few pi few')
-fits v cost w few pi few' count c m = record { rows_same = refl; cols_same = refl; count = count; cost_modest = lit≤ c; values_modest = modest pi m }
+fits : (v : Vec ℤ Global) (cost : ℕ) (w : List Step) (few : T (ltb (length w) (2 ^ 63))) (pi : List ℤ)
+    (few' : T (ltb (length pi) (2 ^ 63))) → length pi ≡ 40 → T (leb cost (10 ^ 36)) → T (are_modest pi)
+    → FitsPair squares (cert v 4 cost w few pi few')
+fits v cost w few pi few' count c m =
+    record { rows_same = refl; cols_same = refl; count = count; cost_modest = lit≤ c; values_modest = modest pi m }
 
 accepted : (v : Vec ℤ Global) → IsVerdict squares (cert v 4 1200 word tt (numbers 300) tt) Accept
 unfolding arcs around distance_square square
@@ -78,8 +95,12 @@ three_rows : (v : Vec ℤ Global) → IsVerdict squares (cert v 3 1200 word tt (
 three_rows v = λ f. omega (arith, f.rows_same)
 
 -- the last letter omitted
-short_word : (v : Vec ℤ Global) → IsVerdict squares (cert v 4 1200 (V ∷ H ∷ V ∷ H ∷ V ∷ H ∷ V ∷ []) tt (numbers 300) tt) Word
-short_word v = (fits v 1200 (V ∷ H ∷ V ∷ H ∷ V ∷ H ∷ V ∷ []) tt (numbers 300) tt refl tt tt, (λ a. omega (arith, a.letters.h)))
+short_word : (v : Vec ℤ Global) → IsVerdict squares (cert v 4 1200 (V ∷ H ∷ V ∷ H ∷ V ∷ H ∷ V ∷ []) tt (numbers 300) tt)
+    Word
+short_word v = (
+  fits v 1200 (V ∷ H ∷ V ∷ H ∷ V ∷ H ∷ V ∷ []) tt (numbers 300) tt refl tt tt,
+  (λ a. omega (arith, a.letters.h)),
+)
 
 -- another cost
 other_cost : (v : Vec ℤ Global) → IsVerdict squares (cert v 4 1199 word tt (numbers 300) tt) Cost
@@ -89,7 +110,12 @@ other_cost v = (fits v 1199 word tt (numbers 300) tt refl tt tt, goes_round, (λ
 -- one number raised by 1
 raised : (v : Vec ℤ Global) → IsVerdict squares (cert v 4 1200 word tt (numbers 301) tt) (Arc 0 1 V)
 unfolding arcs around distance_square square
-raised v = (fits v 1200 word tt (numbers 301) tt refl tt tt, goes_round, refl, record { fails = λ h. omega (arith, ints, h (lit< tt) (lit≤ tt)); first = before })
+raised v = (
+  fits v 1200 word tt (numbers 301) tt refl tt tt,
+  goes_round,
+  refl,
+  record { fails = λ h. omega (arith, ints, h (lit< tt) (lit≤ tt)); first = before },
+)
   where
     here : (s : Step) → StepHolds (arcs squares) 4 4 (numbers 301) 0 0 s
     here V = λ lt le. le_z_yes tt
@@ -100,7 +126,8 @@ raised v = (fits v 1200 word tt (numbers 301) tt refl tt tt, goes_round, refl, r
         elim b [
           | inl lt ↦ absurd (omega (arith, lt))
           | inr e ↦ elim e.1 [
-            | inl lt ↦ (let f : j ≡ 0 = omega (arith, lt) in subst₂ (λ (x y : ℕ). StepHolds (arcs squares) 4 4 (numbers 301) x y s) (sym e.0) (sym f) (here s))
+            | inl lt ↦ (let f : j ≡ 0 = omega (arith, lt) in
+                subst₂ (λ (x y : ℕ). StepHolds (arcs squares) 4 4 (numbers 301) x y s) (sym e.0) (sym f) (here s))
             | inr k ↦ absurd (let t : V ≡ H = k.2 in cc)
           ]
         ]
@@ -108,4 +135,10 @@ raised v = (fits v 1200 word tt (numbers 301) tt refl tt tt, goes_round, refl, r
 -- every number 0
 all_zero : (v : Vec ℤ Global) → IsVerdict squares (cert v 4 1200 word tt (zeros 40) tt) (Turn 0)
 unfolding arcs around distance_square square
-all_zero v = (fits v 1200 word tt (zeros 40) tt refl tt tt, goes_round, refl, all_steps (zeros 40) tt tt, record { fails = λ h. omega (arith, ints, h (lit< tt)); first = λ i lt. absurd (omega (arith, lt)) })
+all_zero v = (
+  fits v 1200 word tt (zeros 40) tt refl tt tt,
+  goes_round,
+  refl,
+  all_steps (zeros 40) tt tt,
+  record { fails = λ h. omega (arith, ints, h (lit< tt)); first = λ i lt. absurd (omega (arith, lt)) },
+)

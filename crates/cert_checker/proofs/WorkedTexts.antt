@@ -16,38 +16,166 @@ abbrev head : CertHead
 head = record { pair = 1; rows = 4; cols = 4; cost = pos 1200; start = 0 }
 
 abbrev numbers : List ℤ
-numbers = pos 0 ∷ pos 200 ∷ pos 500 ∷ pos 700 ∷ pos 800 ∷ pos 200 ∷ pos 300 ∷ pos 500 ∷ pos 800 ∷ pos 1000 ∷ pos 300 ∷ pos 500 ∷ pos 600 ∷ pos 800 ∷ pos 1100 ∷ pos 500 ∷ pos 800 ∷ pos 800 ∷ pos 900 ∷ pos 1100 ∷ pos 600 ∷ pos 800 ∷ pos 1100 ∷ pos 1100 ∷ pos 1200 ∷ pos 800 ∷ pos 900 ∷ pos 1100 ∷ pos 1400 ∷ pos 1400 ∷ pos 1100 ∷ pos 1100 ∷ pos 1200 ∷ pos 1400 ∷ pos 1700 ∷ pos 1300 ∷ pos 1400 ∷ pos 1400 ∷ pos 1500 ∷ pos 1700 ∷ []
+numbers = pos 0 ∷ pos 200 ∷ pos 500 ∷ pos 700 ∷ pos 800 ∷ pos 200 ∷ pos 300 ∷ pos 500 ∷ pos 800 ∷ pos 1000 ∷ pos 300
+    ∷ pos 500 ∷ pos 600 ∷ pos 800 ∷ pos 1100 ∷ pos 500 ∷ pos 800 ∷ pos 800 ∷ pos 900 ∷ pos 1100 ∷ pos 600 ∷ pos 800
+    ∷ pos 1100 ∷ pos 1100 ∷ pos 1200 ∷ pos 800 ∷ pos 900 ∷ pos 1100 ∷ pos 1400 ∷ pos 1400 ∷ pos 1100 ∷ pos 1100
+    ∷ pos 1200 ∷ pos 1400 ∷ pos 1700 ∷ pos 1300 ∷ pos 1400 ∷ pos 1400 ∷ pos 1500 ∷ pos 1700 ∷ []
 
 abbrev squares : CertParts
 squares = record { head = head; word = V ∷ H ∷ V ∷ H ∷ V ∷ H ∷ V ∷ H ∷ []; values = numbers }
 
 good_head : IsHead head
-good_head = record { pair = (omega arith, omega arith); rows = (omega arith, omega arith); cols = (omega arith, omega arith); cost = omega arith; start = omega arith }
+good_head = record {
+  pair = (omega arith, omega arith);
+  rows = (omega arith, omega arith);
+  cols =
+      (omega arith, omega arith);
+  cost = omega arith;
+  start = omega arith;
+}
 
 lawful : IsLawfulCertificate squares
 lawful = record { head = good_head; word = (omega arith, omega arith); count = refl; values = modest numbers tt }
 
 -- the canonical text
 abbrev text : List ℕ
-text = codes "CERT 1 PAIR 1 ROWS 4 COLS 4 COST 1200 START 0\nWORD VHVHVHVH\n0 200 500 700 800\n200 300 500 800 1000\n300 500 600 800 1100\n500 800 800 900 1100\n600 800 1100 1100 1200\n800 900 1100 1400 1400\n1100 1100 1200 1400 1700\n1300 1400 1400 1500 1700\nEND\n"
+text =
+    codes
+    "CERT 1 PAIR 1 ROWS 4 COLS 4 COST 1200 START 0\nWORD VHVHVHVH\n0 200 500 700 800\n200 300 500 800 1000\n300 500 600 800 1100\n500 800 800 900 1100\n600 800 1100 1100 1200\n800 900 1100 1400 1400\n1100 1100 1200 1400 1700\n1300 1400 1400 1500 1700\nEND\n"
 
 printed : cert_text squares ≡ text
 unfolding digits
 printed = refl
 
 reads : ReadsAsCertificate (kept_behind 0 text) squares
-reads = record { lawful = lawful; match = ((refl, (refl, (refl, (refl, (refl, (refl, (refl, (refl, (refl, (refl, (refl, (refl, tt)))))))))))), ((refl, (refl, tt)), ((refl, (refl, (refl, (refl, (refl, tt))))), ((refl, (refl, (refl, (refl, (refl, tt))))), ((refl, (refl, (refl, (refl, (refl, tt))))), ((refl, (refl, (refl, (refl, (refl, tt))))), ((refl, (refl, (refl, (refl, (refl, tt))))), ((refl, (refl, (refl, (refl, (refl, tt))))), ((refl, (refl, (refl, (refl, (refl, tt))))), ((refl, (refl, (refl, (refl, (refl, tt))))), ((refl, tt), tt))))))))))) }
+reads = record {
+  lawful = lawful;
+  match = (
+    (refl, (refl, (refl, (refl, (refl, (refl, (refl, (refl, (refl, (refl, (refl, (refl, tt)))))))))))),
+    (
+      (refl, (refl, tt)),
+      (
+        (refl, (refl, (refl, (refl, (refl, tt))))),
+        (
+          (refl, (refl, (refl, (refl, (refl, tt))))),
+          (
+            (refl, (refl, (refl, (refl, (refl, tt))))),
+            (
+              (refl, (refl, (refl, (refl, (refl, tt))))),
+              (
+                (refl, (refl, (refl, (refl, (refl, tt))))),
+                (
+                  (refl, (refl, (refl, (refl, (refl, tt))))),
+                  ((refl, (refl, (refl, (refl, (refl, tt))))), ((refl, (refl, (refl, (refl, (refl, tt))))), ((refl, tt), tt))),
+                ),
+              ),
+            ),
+          ),
+        ),
+      ),
+    ),
+  );
+}
 
 -- other ends of lines, blanks, an empty line, a comment, leading zeros and -0
-reads_too : ReadsAsCertificate (kept_behind 16 (codes "# by hand\nCERT\t1\tPAIR\t1\tROWS\t4\tCOLS\t4\tCOST\t01200\tSTART  -0\r\n\nWORD VHVHVHVH\r\n\n0 200 500 700 800\r\n\n200 300 500 800 1000\r\n\n300 500 600 800 1100\r\n\n500 800 800 900 1100\r\n\n600 800 1100 1100 1200\r\n\n800 900 1100 1400 1400\r\n\n1100 1100 1200 1400 1700\r\n\n1300 1400 1400 1500 1700\r\n\nEND")) squares
-reads_too = record { lawful = lawful; match = ((refl, (refl, (refl, (refl, (refl, (refl, (refl, (refl, (refl, (refl, (refl, (refl, tt)))))))))))), ((refl, (refl, tt)), ((refl, (refl, (refl, (refl, (refl, tt))))), ((refl, (refl, (refl, (refl, (refl, tt))))), ((refl, (refl, (refl, (refl, (refl, tt))))), ((refl, (refl, (refl, (refl, (refl, tt))))), ((refl, (refl, (refl, (refl, (refl, tt))))), ((refl, (refl, (refl, (refl, (refl, tt))))), ((refl, (refl, (refl, (refl, (refl, tt))))), ((refl, (refl, (refl, (refl, (refl, tt))))), ((refl, tt), tt))))))))))) }
+reads_too : ReadsAsCertificate (kept_behind 16
+    (codes
+    "# by hand\nCERT\t1\tPAIR\t1\tROWS\t4\tCOLS\t4\tCOST\t01200\tSTART  -0\r\n\nWORD VHVHVHVH\r\n\n0 200 500 700 800\r\n\n200 300 500 800 1000\r\n\n300 500 600 800 1100\r\n\n500 800 800 900 1100\r\n\n600 800 1100 1100 1200\r\n\n800 900 1100 1400 1400\r\n\n1100 1100 1200 1400 1700\r\n\n1300 1400 1400 1500 1700\r\n\nEND")) squares
+reads_too = record {
+  lawful = lawful;
+  match = (
+    (refl, (refl, (refl, (refl, (refl, (refl, (refl, (refl, (refl, (refl, (refl, (refl, tt)))))))))))),
+    (
+      (refl, (refl, tt)),
+      (
+        (refl, (refl, (refl, (refl, (refl, tt))))),
+        (
+          (refl, (refl, (refl, (refl, (refl, tt))))),
+          (
+            (refl, (refl, (refl, (refl, (refl, tt))))),
+            (
+              (refl, (refl, (refl, (refl, (refl, tt))))),
+              (
+                (refl, (refl, (refl, (refl, (refl, tt))))),
+                (
+                  (refl, (refl, (refl, (refl, (refl, tt))))),
+                  ((refl, (refl, (refl, (refl, (refl, tt))))), ((refl, (refl, (refl, (refl, (refl, tt))))), ((refl, tt), tt))),
+                ),
+              ),
+            ),
+          ),
+        ),
+      ),
+    ),
+  );
+}
 
 -- the last line omitted, after 16 lines of an input
 abbrev cut : List ℕ
-cut = codes "CERT 1 PAIR 1 ROWS 4 COLS 4 COST 1200 START 0\nWORD VHVHVHVH\n0 200 500 700 800\n200 300 500 800 1000\n300 500 600 800 1100\n500 800 800 900 1100\n600 800 1100 1100 1200\n800 900 1100 1400 1400\n1100 1100 1200 1400 1700\n1300 1400 1400 1500 1700\n"
+cut =
+    codes
+    "CERT 1 PAIR 1 ROWS 4 COLS 4 COST 1200 START 0\nWORD VHVHVHVH\n0 200 500 700 800\n200 300 500 800 1000\n300 500 600 800 1100\n500 800 800 900 1100\n600 800 1100 1100 1200\n800 900 1100 1400 1400\n1100 1100 1200 1400 1700\n1300 1400 1400 1500 1700\n"
 
 stops : HasCertificateFault (kept_behind 16 cut) 26 27
-stops = inr (record { past = refl; begins = begins_rows head squares.word 8 numbers good_head (omega arith, omega arith) (omega arith) refl (modest numbers tt) (lines_of (kept_behind 16 cut)) ((refl, (refl, (refl, (refl, (refl, (refl, (refl, (refl, (refl, (refl, (refl, (refl, tt)))))))))))), ((refl, (refl, tt)), ((refl, (refl, (refl, (refl, (refl, tt))))), ((refl, (refl, (refl, (refl, (refl, tt))))), ((refl, (refl, (refl, (refl, (refl, tt))))), ((refl, (refl, (refl, (refl, (refl, tt))))), ((refl, (refl, (refl, (refl, (refl, tt))))), ((refl, (refl, (refl, (refl, (refl, tt))))), ((refl, (refl, (refl, (refl, (refl, tt))))), ((refl, (refl, (refl, (refl, (refl, tt))))), tt)))))))))); none = λ C r. short_rows head squares.word 8 numbers (omega arith) C (lines_of (kept_behind 16 cut)) ((refl, (refl, (refl, (refl, (refl, (refl, (refl, (refl, (refl, (refl, (refl, (refl, tt)))))))))))), ((refl, (refl, tt)), ((refl, (refl, (refl, (refl, (refl, tt))))), ((refl, (refl, (refl, (refl, (refl, tt))))), ((refl, (refl, (refl, (refl, (refl, tt))))), ((refl, (refl, (refl, (refl, (refl, tt))))), ((refl, (refl, (refl, (refl, (refl, tt))))), ((refl, (refl, (refl, (refl, (refl, tt))))), ((refl, (refl, (refl, (refl, (refl, tt))))), ((refl, (refl, (refl, (refl, (refl, tt))))), tt)))))))))) r.match })
+stops = inr (record {
+  past = refl;
+  begins =
+      begins_rows head squares.word 8 numbers good_head (omega arith, omega arith) (omega arith) refl (modest numbers tt)
+      (lines_of (kept_behind 16 cut)) (
+        (
+          refl,
+          (refl, (refl, (refl, (refl, (refl, (refl, (refl, (refl, (refl, (refl, (refl, tt))))))))))),
+        ),
+        (
+          (refl, (refl, tt)),
+          (
+            (refl, (refl, (refl, (refl, (refl, tt))))),
+            (
+              (refl, (refl, (refl, (refl, (refl, tt))))),
+              (
+                (refl, (refl, (refl, (refl, (refl, tt))))),
+                (
+                  (refl, (refl, (refl, (refl, (refl, tt))))),
+                  (
+                    (refl, (refl, (refl, (refl, (refl, tt))))),
+                    (
+                      (refl, (refl, (refl, (refl, (refl, tt))))),
+                      ((refl, (refl, (refl, (refl, (refl, tt))))), ((refl, (refl, (refl, (refl, (refl, tt))))), tt)),
+                    ),
+                  ),
+                ),
+              ),
+            ),
+          ),
+        ),
+      );
+  none =
+      λ C r. short_rows head squares.word 8 numbers (omega arith) C (lines_of (kept_behind 16 cut)) (
+        (refl, (refl, (refl, (refl, (refl, (refl, (refl, (refl, (refl, (refl, (refl, (refl, tt)))))))))))),
+        (
+          (refl, (refl, tt)),
+          (
+            (refl, (refl, (refl, (refl, (refl, tt))))),
+            (
+              (refl, (refl, (refl, (refl, (refl, tt))))),
+              (
+                (refl, (refl, (refl, (refl, (refl, tt))))),
+                (
+                  (refl, (refl, (refl, (refl, (refl, tt))))),
+                  (
+                    (refl, (refl, (refl, (refl, (refl, tt))))),
+                    (
+                      (refl, (refl, (refl, (refl, (refl, tt))))),
+                      ((refl, (refl, (refl, (refl, (refl, tt))))), ((refl, (refl, (refl, (refl, (refl, tt))))), tt)),
+                    ),
+                  ),
+                ),
+              ),
+            ),
+          ),
+        ),
+      ) r.match;
+})
 
 -- no certificate at all
 nothing : HasCertificateFault (kept_behind 16 []) (last_line 16 []) 17
@@ -55,10 +183,21 @@ nothing = inr (record { past = refl; begins = begins_none [] tt; none = λ C r. 
 
 -- a line after END
 abbrev more : List ℕ
-more = codes "CERT 1 PAIR 1 ROWS 4 COLS 4 COST 1200 START 0\nWORD VHVHVHVH\n0 200 500 700 800\n200 300 500 800 1000\n300 500 600 800 1100\n500 800 800 900 1100\n600 800 1100 1100 1200\n800 900 1100 1400 1400\n1100 1100 1200 1400 1700\n1300 1400 1400 1500 1700\nEND\n# nothing\nEND\n"
+more =
+    codes
+    "CERT 1 PAIR 1 ROWS 4 COLS 4 COST 1200 START 0\nWORD VHVHVHVH\n0 200 500 700 800\n200 300 500 800 1000\n300 500 600 800 1100\n500 800 800 900 1100\n600 800 1100 1100 1200\n800 900 1100 1400 1400\n1100 1100 1200 1400 1700\n1300 1400 1400 1500 1700\nEND\n# nothing\nEND\n"
 
 one_more : HasCertificateFault (kept_behind 0 more) (last_line 0 more) 13
-one_more = inl (record { before = kept_behind 0 text; line = codes "END" ∷ []; after = []; split = refl; begins = begins_whole squares lawful (lines_of (kept_behind 0 text)) reads.match; none = stuck_past head squares.word numbers (codes "END" ∷ []) (lines_of (kept_behind 0 text)) reads.match })
+one_more = inl (record {
+  before = kept_behind 0 text;
+  line = codes "END" ∷ [];
+  after = [];
+  split = refl;
+  begins =
+      begins_whole squares lawful (lines_of (kept_behind 0 text)) reads.match;
+  none =
+      stuck_past head squares.word numbers (codes "END" ∷ []) (lines_of (kept_behind 0 text)) reads.match;
+})
 
 -- a pair 0
 abbrev pair_0 : Line
@@ -70,8 +209,17 @@ some_pos m n e = cc
 no_pair_0 : (h : CertHead) → IsHead h → Matches pair_0 (head_line h) → ⊥
 no_pair_0 h i m = omega (arith, some_pos 0 h.pair m.1.1.1.0, i.pair.0)
 
-first_line : HasCertificateFault (kept_behind 16 (codes "# PAIR 0\nCERT 1 PAIR 0 ROWS 4 COLS 4 COST 1200 START 0\n")) 18 18
-first_line = inl (record { before = []; line = pair_0; after = []; split = refl; begins = begins_none [] tt; none = stuck_head pair_0 no_pair_0 [] tt })
+first_line : HasCertificateFault (kept_behind 16 (codes "# PAIR 0\nCERT 1 PAIR 0 ROWS 4 COLS 4 COST 1200 START 0\n")) 18
+    18
+first_line = inl (record {
+  before = [];
+  line = pair_0;
+  after = [];
+  split = refl;
+  begins = begins_none [] tt;
+  none =
+      stuck_head pair_0 no_pair_0 [] tt;
+})
 
 -- numbers at 10 ^ 36, and one above it
 at_most : IsValueRow 2 (pos (10 ^ 36) ∷ negsuc (10 ^ 36 - 1) ∷ [])

@@ -17,20 +17,40 @@ use Rattle.section_text.specs.Fronts.{HasFourLines, IsObjectsFrontOf, IsReadMemo
 use Rattle.section_text.specs.declared.front.ObjectsFront.{ObjectsFront}
 use Rattle.section_text.proofs.FourLines.{four_of}
 
-four_kept : (latest : Version) (kept : List Kept) (F : FileParts) (tail : List Kept) → HasFile latest kept F tail → HasFourLines latest kept
+four_kept : (latest : Version) (kept : List Kept) (F : FileParts) (tail : List Kept) → HasFile latest kept F tail
+    → HasFourLines latest kept
 four_kept latest kept F tail h =
     let lines = file_lines F in
-    let enough : 4 ≤ length h.front = omega (arith, AllZip-long Matches (lines_of h.front) lines h.match, length-map h.front (λ (k : Kept). k.1), length-append (flat_map (object_lines F.version F.rule) F.objects) (end_line ∷ [])) in
+    let enough : 4 ≤ length h.front = omega (
+      arith,
+      AllZip-long Matches (lines_of h.front) lines h.match,
+      length-map h.front (λ (k : Kept). k.1),
+      length-append (flat_map (object_lines F.version F.rule) F.objects) (end_line ∷ []),
+    ) in
     subst (HasFourLines latest) (sym h.split)
-    (four_of latest h.front tail enough (record { parts = F; is_file = h.is_file; known = h.known; keeps = h.lawful; front = lines; rest = []; split = sym (append-nil lines); match = h.match }))
+    (four_of latest h.front tail enough
+    (record {
+      parts = F;
+      is_file = h.is_file;
+      known = h.known;
+      keeps = h.lawful;
+      front = lines;
+      rest = [];
+      split =
+          sym (append-nil lines);
+      match = h.match;
+    }))
 
-late : {T : Type 0} (bytes : List ℕ) (r : Result T Fault) → HasFourLines Two (kept_lines bytes) → IfErr r (IsReadMemory Two bytes)
+late : {T : Type 0} (bytes : List ℕ) (r : Result T Fault) → HasFourLines Two (kept_lines bytes)
+    → IfErr r (IsReadMemory Two bytes)
 late bytes (Ok v) h = tt
 late bytes (Err NoMemory) h = h
 late bytes (Err fault) h = tt
 
-pub at_text : {T : Type 0} (bytes : List ℕ) (F : FileParts) (r : Result T Fault) → IsTextOfFile bytes F → IfErr r (IsReadMemory Two bytes)
+pub at_text : {T : Type 0} (bytes : List ℕ) (F : FileParts) (r : Result T Fault) → IsTextOfFile bytes F
+    → IfErr r (IsReadMemory Two bytes)
 at_text bytes F r h = late bytes r (four_kept Two (kept_lines bytes) F [] h.0)
 
-pub at_front : {T : Type 0} (bytes : List ℕ) (f : ObjectsFront) (r : Result T Fault) → IsObjectsFrontOf bytes f → IfErr r (IsReadMemory Two bytes)
+pub at_front : {T : Type 0} (bytes : List ℕ) (f : ObjectsFront) (r : Result T Fault) → IsObjectsFrontOf bytes f
+    → IfErr r (IsReadMemory Two bytes)
 at_front bytes f r h = late bytes r (four_kept Two (kept_lines bytes) f.objects _ h.front)

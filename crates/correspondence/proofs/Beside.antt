@@ -38,14 +38,16 @@ beneath_all p ring a w =
     let e = some_place (EdgeCrossed p ring) (length ring) w.count w.among (odd_positive w.count w.odd) in
     let some : 0 < length ring = omega (arith, e.1) in
     let P : Point → Type 0 = λ q. p.y <ℤ q.y in
-    not_above p (around ring e.0) (around ring (suc e.0)) (all_around P ring e.0 some a) (all_around P ring (suc e.0) some a) e.2.height
+    not_above p (around ring e.0) (around ring (suc e.0)) (all_around P ring e.0 some a)
+    (all_around P ring (suc e.0) some a) e.2.height
 
 pub above_all : (p : Point) (ring : List Point) → All (λ q. q.y ≤ℤ p.y) ring → Inside p ring → ⊥
 above_all p ring a w =
     let e = some_place (EdgeCrossed p ring) (length ring) w.count w.among (odd_positive w.count w.odd) in
     let some : 0 < length ring = omega (arith, e.1) in
     let P : Point → Type 0 = λ q. q.y ≤ℤ p.y in
-    not_below p (around ring e.0) (around ring (suc e.0)) (all_around P ring e.0 some a) (all_around P ring (suc e.0) some a) e.2.height
+    not_below p (around ring e.0) (around ring (suc e.0)) (all_around P ring e.0 some a)
+    (all_around P ring (suc e.0) some a) e.2.height
 
 untrue_is_false : (b : Bool) → (IsTrue b → ⊥) → false ≡ b
 untrue_is_false false h = refl
@@ -57,17 +59,21 @@ beside_outside b p ring e (inl l) w = beneath_all p ring (λ i d h. omega (arith
 beside_outside b p ring e (inr l) w = above_all p ring (λ i d h. omega (arith, ints, l, (e i d h).top)) w
 
 -- outside, by both forms of the test
-pub told_outside : (p : Point) (ring : List Point) → (Inside p ring → ⊥) → (IsTrue false ↔ Inside p ring) × (false ≡ is_inside p ring)
+pub told_outside : (p : Point) (ring : List Point) → (Inside p ring → ⊥) → (IsTrue false ↔ Inside p ring)
+    × (false ≡ is_inside p ring)
 told_outside p ring h =
-    let t = inside_test p ring in
-    ((λ n. absurd (let k : false ≡ true = n in cc), λ w. absurd (h w)), untrue_is_false (is_inside p ring) (λ e. h (t.0 e)))
+    let t = inside_test p ring in (
+      (λ n. absurd (let k : false ≡ true = n in cc), λ w. absurd (h w)),
+      untrue_is_false (is_inside p ring) (λ e. h (t.0 e)),
+    )
 
 and_no : (x y : Bool) → false ≡ y → false ≡ x && y
 and_no false y h = refl
 and_no true y h = h
 
 -- so vertex 0 of a contour is not inside the other one, by both forms of the test
-pub told_not_in : (contours : List (List Point)) (place other : ℕ) (b : Bounds) → Encloses b (contour_at contours other) → LieBeside b (first_point (contour_at contours place))
+pub told_not_in : (contours : List (List Point)) (place other : ℕ) (b : Bounds) → Encloses b (contour_at contours other)
+    → LieBeside b (first_point (contour_at contours place))
     → (false ≡ lies_in contours place other) × (LiesIn contours place other → ⊥)
 told_not_in contours place other b e l =
     let p = first_point (contour_at contours place) in

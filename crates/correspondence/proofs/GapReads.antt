@@ -18,13 +18,19 @@ use Rattle.correspondence.proofs.Adjacent.{row_of}
 use Rattle.correspondence.proofs.Held.{sections_within}
 use Rattle.correspondence.proofs.Transferred.{same_components}
 
-pub rows_columns : (rows : List (Vec Bool Global)) (n m : ℕ) (R : ℕ → ℕ → Type 0) → AreRows (table_of rows) n m R → All (λ v. length v.items ≡ m) rows
+pub rows_columns : (rows : List (Vec Bool Global)) (n m : ℕ) (R : ℕ → ℕ → Type 0) → AreRows (table_of rows) n m R
+    → All (λ v. length v.items ≡ m) rows
 rows_columns rows n m R a k d l =
     let r = row_of rows k l in
-    ap (λ (v : Vec Bool Global). length v.items) (r.2 d) ∙ sym (ap length r.1) ∙ a.columns k (omega (arith, a.rows, length-map rows (λ (v : Vec Bool Global). v.items)))
+    ap (λ (v : Vec Bool Global). length v.items) (r.2 d) ∙ sym (ap length r.1)
+    ∙ a.columns k (omega (arith, a.rows, length-map rows (λ (v : Vec Bool Global). v.items)))
 
-pub gap_components : (S : Parts) (g n m : ℕ) (table : List (List Bool)) (rule : PairRule) (links : List LinkParts) (low high : Layer) (cs : List Members) → layer_at S g ≡ low → layer_at S (g + 1) ≡ high → rule ≡ S.rule → links ≡ S.links
-    → n ≡ length low.outlines → m ≡ length high.outlines → AreRows table n m (Agree rule links low high) → AreComponents (cell_links table) n m cs → AreComponents (Correspond S g) (length (layer_at S g).outlines) (length (layer_at S (g + 1)).outlines) cs
+pub gap_components : (S : Parts) (g n m : ℕ) (table : List (List Bool)) (rule : PairRule) (links : List LinkParts)
+    (low high : Layer) (cs : List Members) → layer_at S g ≡ low → layer_at S (g + 1) ≡ high → rule ≡ S.rule
+    → links ≡ S.links
+    → n ≡ length low.outlines → m ≡ length high.outlines → AreRows table n m (Agree rule links low high)
+    → AreComponents (cell_links table) n m cs
+    → AreComponents (Correspond S g) (length (layer_at S g).outlines) (length (layer_at S (g + 1)).outlines) cs
 gap_components S g n m table rule links low high cs el eh er ek en em rows h =
     let n' : n ≡ length (layer_at S g).outlines = en ∙ ap (λ (l : Layer). length l.outlines) (sym el) in
     let m' : m ≡ length (layer_at S (g + 1)).outlines = em ∙ ap (λ (l : Layer). length l.outlines) (sym eh) in
@@ -40,9 +46,12 @@ gap_components S g n m table rule links low high cs el eh er ek en em rows h =
           record { below = omega (arith, li, n'); above = omega (arith, lj, m'); agree = (d.cells i j li lj).0 t },
       λ k. (d.cells i j (omega (arith, k.below, n')) (omega (arith, k.above, m'))).1 k.agree,
     ) in
-    subst₂ (λ (x y : ℕ). AreComponents (Correspond S g) x y cs) n' m' (same_components (cell_links table) (Correspond S g) same n m cs h)
+    subst₂ (λ (x y : ℕ). AreComponents (Correspond S g) x y cs) n' m'
+    (same_components (cell_links table) (Correspond S g) same n m cs h)
 
 -- a section of a text keeps the limits
-pub section_within : (ss : List Section) (S : Parts) (k : ℕ) (s : Section) → map section_parts ss ≡ S.sections → AreFlat ss → IsAccepted S → k < length S.sections → s ≡ get_or ss k s → AreOutlines s.contours.items
+pub section_within : (ss : List Section) (S : Parts) (k : ℕ) (s : Section) → map section_parts ss ≡ S.sections
+    → AreFlat ss → IsAccepted S → k < length S.sections → s ≡ get_or ss k s → AreOutlines s.contours.items
 section_within ss S k s e f a l r =
-    subst (λ (x : Section). AreOutlines x.contours.items) (sym r) (sections_within ss S e f a k s (omega (arith, ap length e, length-map ss section_parts)))
+    subst (λ (x : Section). AreOutlines x.contours.items) (sym r)
+    (sections_within ss S e f a k s (omega (arith, ap length e, length-map ss section_parts)))

@@ -14,7 +14,8 @@ module _ (one other : ℕ → ℕ → Type 0) (same : (i j : ℕ) → one i j �
   leads x [] y e = e
   leads x (z ∷ via) y p = (linked x z p.0, leads z via y p.1)
 
-pub same_component : (one other : ℕ → ℕ → Type 0) → ((i j : ℕ) → one i j ↔ other i j) → (n m : ℕ) (c : Members) → IsComponent one n m c → IsComponent other n m c
+pub same_component : (one other : ℕ → ℕ → Type 0) → ((i j : ℕ) → one i j ↔ other i j) → (n m : ℕ) (c : Members)
+    → IsComponent one n m c → IsComponent other n m c
 same_component one other same n m c h = record {
   whole = λ x y k. (
     λ i. let p = (h.whole x y k).0 i in (p.0, leads one other same x p.0 y p.1),
@@ -28,11 +29,13 @@ same_component one other same n m c h = record {
   some_above = h.some_above;
 }
 
-each : (one other : ℕ → ℕ → Type 0) → ((i j : ℕ) → one i j ↔ other i j) → (n m : ℕ) (cs : List Members) → AllByRecursion (IsComponent one n m) cs → AllByRecursion (IsComponent other n m) cs
+each : (one other : ℕ → ℕ → Type 0) → ((i j : ℕ) → one i j ↔ other i j) → (n m : ℕ) (cs : List Members)
+    → AllByRecursion (IsComponent one n m) cs → AllByRecursion (IsComponent other n m) cs
 each one other same n m [] h = tt
 each one other same n m (c ∷ cs) h = (same_component one other same n m c h.0, each one other same n m cs h.1)
 
-pub same_components : (one other : ℕ → ℕ → Type 0) → ((i j : ℕ) → one i j ↔ other i j) → (n m : ℕ) (cs : List Members) → AreComponents one n m cs → AreComponents other n m cs
+pub same_components : (one other : ℕ → ℕ → Type 0) → ((i j : ℕ) → one i j ↔ other i j) → (n m : ℕ) (cs : List Members)
+    → AreComponents one n m cs → AreComponents other n m cs
 same_components one other same n m cs h = record {
   components = each one other same n m cs h.components;
   in_order = h.in_order;

@@ -28,40 +28,84 @@ inmost = at 12 12 ∷ at 13 12 ∷ at 12 13 ∷ []
 abbrev pinched : List Point
 pinched = at 0 0 ∷ at 4 0 ∷ at 2 2 ∷ at 4 4 ∷ at 0 4 ∷ at 2 2 ∷ []
 
-nested : (depths (outer ∷ inner ∷ []) ≡ 0 ∷ 1 ∷ []) × (depths (inner ∷ beside ∷ outer ∷ inmost ∷ []) ≡ 1 ∷ 0 ∷ 0 ∷ 2 ∷ [])
+nested : (depths (outer ∷ inner ∷ []) ≡ 0 ∷ 1 ∷ [])
+    × (depths (inner ∷ beside ∷ outer ∷ inmost ∷ []) ≡ 1 ∷ 0 ∷ 0 ∷ 2 ∷ [])
 unfolding depth is_inside
 nested = (refl, refl)
 
-turning : (is_turned 0 outer ≡ false) × (is_turned 1 inner ≡ true) × (is_turned 2 inmost ≡ false) × (is_turned 0 (turned outer) ≡ true) × (is_turned 1 (turned inner) ≡ false)
+turning : (is_turned 0 outer ≡ false) × (is_turned 1 inner ≡ true) × (is_turned 2 inmost ≡ false)
+    × (is_turned 0 (turned outer) ≡ true) × (is_turned 1 (turned inner) ≡ false)
 turning = (refl, refl, refl, refl, refl)
 
 first_stays_first : turned {X = ℕ} (4 ∷ 5 ∷ 6 ∷ 7 ∷ []) ≡ 4 ∷ 7 ∷ 6 ∷ 5 ∷ []
 first_stays_first = refl
 
 -- the ids of a hole go with its points
-rings : oriented 0 (outer ∷ inner ∷ []) ≡ record { points = outer; ids = 0 ∷ 1 ∷ 2 ∷ 3 ∷ [] } ∷ record { points = at 10 10 ∷ at 10 20 ∷ at 20 20 ∷ at 20 10 ∷ []; ids = 4 ∷ 7 ∷ 6 ∷ 5 ∷ [] } ∷ []
+rings : oriented 0 (outer ∷ inner ∷ []) ≡ record { points = outer; ids = 0 ∷ 1 ∷ 2 ∷ 3 ∷ [] }
+    ∷ record { points = at 10 10 ∷ at 10 20 ∷ at 20 20 ∷ at 20 10 ∷ []; ids = 4 ∷ 7 ∷ 6 ∷ 5 ∷ [] } ∷ []
 unfolding depth is_inside ring_from oriented
 rings = refl
 
-clockwise : ring_from 0 8 (at 0 0 ∷ at 0 9 ∷ at 9 0 ∷ []) ≡ record { points = at 0 0 ∷ at 9 0 ∷ at 0 9 ∷ []; ids = 8 ∷ 10 ∷ 9 ∷ [] }
+clockwise : ring_from 0 8 (at 0 0 ∷ at 0 9 ∷ at 9 0 ∷ [])
+    ≡ record { points = at 0 0 ∷ at 9 0 ∷ at 0 9 ∷ []; ids = 8 ∷ 10 ∷ 9 ∷ [] }
 unfolding ring_from
 clockwise = refl
 
 -- edges 1 and 4 of the pinched contour meet in a vertex of both
 edges_1_and_4 : AgainstRule pinched 1 4
 unfolding around
-edges_1_and_4 = distant (λ e. absurd (omega (arith, e))) (λ c. absurd (omega (arith, c.0))) (record { s = 1; t = 1; e = 1; at = record { positive = omega arith; on_first = omega arith; on_second = omega arith; x = refl; y = refl } })
+edges_1_and_4 = distant (λ e. absurd (omega (arith, e))) (λ c. absurd (omega (arith, c.0)))
+    (record {
+      s = 1;
+      t = 1;
+      e = 1;
+      at =
+          record { positive = omega arith; on_first = omega arith; on_second = omega arith; x = refl; y = refl };
+    })
 
 -- an edge that turns back, between neighbours and where the ring closes
 turned_back : AgainstRule (at 0 0 ∷ at 9 0 ∷ at 4 0 ∷ at 0 7 ∷ []) 0 1
 unfolding around
-turned_back = following refl (record { s = 4; t = 9; e = 9; at = record { positive = omega arith; on_first = omega arith; on_second = omega arith; x = refl; y = refl }; more = λ f. absurd (omega (arith, f)) })
+turned_back = following refl (record {
+  s = 4;
+  t = 9;
+  e = 9;
+  at = record
+      { positive = omega arith; on_first = omega arith; on_second = omega arith; x = refl; y = refl };
+  more =
+      λ f. absurd (omega (arith, f));
+})
 
 closed_by_turning : AgainstRule (at 0 0 ∷ at 9 0 ∷ at 0 7 ∷ at 4 0 ∷ []) 0 3
 unfolding around
-closed_by_turning = closing (refl, refl) (record { s = 0; t = 4; e = 9; at = record { positive = omega arith; on_first = omega arith; on_second = omega arith; x = refl; y = refl }; more = λ f. absurd (omega (arith, f)) })
+closed_by_turning = closing (refl, refl)
+    (record {
+      s = 0;
+      t = 4;
+      e = 9;
+      at =
+          record { positive = omega arith; on_first = omega arith; on_second = omega arith; x = refl; y = refl };
+      more =
+          λ f. absurd (omega (arith, f));
+    })
 
 -- two squares with a common corner touch
 corner_to_corner : Touch outer (at 30 30 ∷ at 40 30 ∷ at 40 40 ∷ at 30 40 ∷ [])
 unfolding around
-corner_to_corner = record { e = 1; within = omega arith; edge = record { f = 0; within = omega arith; meet = record { s = 1; t = 0; e = 1; at = record { positive = omega arith; on_first = omega arith; on_second = omega arith; x = refl; y = refl } } } }
+corner_to_corner = record {
+  e = 1;
+  within = omega arith;
+  edge =
+      record {
+        f = 0;
+        within = omega arith;
+        meet =
+            record {
+              s = 1;
+              t = 0;
+              e = 1;
+              at =
+                  record { positive = omega arith; on_first = omega arith; on_second = omega arith; x = refl; y = refl };
+            };
+      };
+}

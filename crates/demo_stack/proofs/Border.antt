@@ -21,13 +21,17 @@ next_step p h = grind (arith, ints, nat_tests)
 last_step : apart (direction 0) (direction 7999) ≡ 1
 last_step = omega (arith, ints)
 
-step_to : (p q : ℕ) → p < 8000 → ((p + 1 < 8000) × (q ≡ p + 1)) ⊎ ((p ≡ 7999) × (q ≡ 0)) → apart (direction q) (direction p) ≡ 1
+step_to : (p q : ℕ) → p < 8000 → ((p + 1 < 8000) × (q ≡ p + 1)) ⊎ ((p ≡ 7999) × (q ≡ 0))
+    → apart (direction q) (direction p) ≡ 1
 step_to p q h (inl l) = ap (λ (r : ℕ). apart (direction r) (direction p)) l.1 ∙ next_step p l.0
-step_to p q h (inr l) = ap (λ (r : ℕ). apart (direction r) (direction p)) l.1 ∙ ap (λ (r : ℕ). apart (direction 0) (direction r)) l.0 ∙ last_step
+step_to p q h (inr l) = ap (λ (r : ℕ). apart (direction r) (direction p)) l.1
+    ∙ ap (λ (r : ℕ). apart (direction 0) (direction r)) l.0 ∙ last_step
 
-where_next : (p : ℕ) → p < 8000 → (p + 1 < 8000) ⊎ (8000 ≤ p + 1) → ((p + 1 < 8000) × ((p + 1) % 8000 ≡ p + 1)) ⊎ ((p ≡ 7999) × ((p + 1) % 8000 ≡ 0))
+where_next : (p : ℕ) → p < 8000 → (p + 1 < 8000) ⊎ (8000 ≤ p + 1) → ((p + 1 < 8000) × ((p + 1) % 8000 ≡ p + 1))
+    ⊎ ((p ≡ 7999) × ((p + 1) % 8000 ≡ 0))
 where_next p h (inl l) = inl (l, mod-eq_of_lt l)
-where_next p h (inr l) = let e : p + 1 ≡ 8000 = omega arith in inr (omega arith, ap (λ (r : ℕ). r % 8000) e ∙ mod_self 8000)
+where_next p h (inr l) = let e : p + 1 ≡ 8000 = omega arith in
+    inr (omega arith, ap (λ (r : ℕ). r % 8000) e ∙ mod_self 8000)
 
 pub one_step : (p : ℕ) → p < 8000 → apart (direction ((p + 1) % 8000)) (direction p) ≡ 1
 one_step p h = step_to p ((p + 1) % 8000) h (where_next p h (cases_lt (p + 1) 8000))

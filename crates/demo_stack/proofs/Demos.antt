@@ -24,13 +24,15 @@ contour_is : (seed k s : ℕ) → s < 64 → IsCountedContour (contour seed k s)
 contour_is seed k s h = (name_is s h, length-map-range_with_len (demo_vertex seed k s) 0 k)
 
 spots_are : (seed k s : ℕ) → AllByRecursion IsSpot (contour seed k s).points
-spots_are seed k s = all_range IsSpot (demo_vertex seed k s) 0 k (λ t l m. spot_in_range (state_after seed (s * k + t + 1)) k t (omega arith))
+spots_are seed k s = all_range IsSpot (demo_vertex seed k s) 0 k
+    (λ t l m. spot_in_range (state_after seed (s * k + t + 1)) k t (omega arith))
 
 -- ---- names and heights
 names_distinct : (a n : ℕ) → a + n ≤ 64 → AreDistinct (map name (range_with_len a n))
 names_distinct a zero h = tt
 names_distinct a (suc n) h = (
-  all_range (λ (other : List ℕ). name a ≡ other → ⊥) name (a + 1) n (λ k l m e. let same = name_one a k (omega arith) (omega arith) e in absurd (omega arith)),
+  all_range (λ (other : List ℕ). name a ≡ other → ⊥) name (a + 1) n
+      (λ k l m e. let same = name_one a k (omega arith) (omega arith) e in absurd (omega arith)),
   names_distinct (a + 1) n (omega arith),
 )
 
@@ -52,35 +54,55 @@ heights_are seed n k = map_map (λ (s : SectionParts). s.z) (section seed k) (ra
 
 names_are : (seed n k : ℕ) → names (stack seed n k) ≡ map name (range_with_len 0 n)
 unfolding stack
-names_are seed n k = ap (map (λ (c : ContourParts). c.name)) (contours_are seed k (range_with_len 0 n)) ∙ map_map (λ (c : ContourParts). c.name) (contour seed k) (range_with_len 0 n)
+names_are seed n k = ap (map (λ (c : ContourParts). c.name)) (contours_are seed k (range_with_len 0 n))
+    ∙ map_map (λ (c : ContourParts). c.name) (contour seed k) (range_with_len 0 n)
 
 counts_are : (seed n k : ℕ) → counts (stack seed n k) ≡ map (λ (s : ℕ). pos k) (range_with_len 0 n)
 unfolding stack
-counts_are seed n k = ap (map (λ (c : ContourParts). c.count)) (contours_are seed k (range_with_len 0 n)) ∙ map_map (λ (c : ContourParts). c.count) (contour seed k) (range_with_len 0 n)
+counts_are seed n k = ap (map (λ (c : ContourParts). c.count)) (contours_are seed k (range_with_len 0 n))
+    ∙ map_map (λ (c : ContourParts). c.count) (contour seed k) (range_with_len 0 n)
 
-points_are : (seed n k : ℕ) → points (stack seed n k) ≡ flat_map (λ (c : ContourParts). c.points) (map (contour seed k) (range_with_len 0 n))
+points_are : (seed n k : ℕ) → points (stack seed n k)
+    ≡ flat_map (λ (c : ContourParts). c.points) (map (contour seed k) (range_with_len 0 n))
 unfolding stack
 points_are seed n k = ap (flat_map (λ (c : ContourParts). c.points)) (contours_are seed k (range_with_len 0 n))
 
 all_contours : (seed n k : ℕ) → n ≤ 64 → AllByRecursion IsCountedContour (contours_of (stack seed n k))
 unfolding stack
-all_contours seed n k h = subst (AllByRecursion IsCountedContour) (sym (contours_are seed k (range_with_len 0 n))) (all_range IsCountedContour (contour seed k) 0 n (λ s l m. contour_is seed k s (omega arith)))
+all_contours seed n k h = subst (AllByRecursion IsCountedContour) (sym (contours_are seed k (range_with_len 0 n)))
+    (all_range IsCountedContour (contour seed k) 0 n (λ s l m. contour_is seed k s (omega arith)))
 
 all_heights : (seed n k : ℕ) → n ≤ 64 → AllByRecursion IsCoordinate (heights (stack seed n k))
-all_heights seed n k h = subst (AllByRecursion IsCoordinate) (sym (heights_are seed n k)) (all_range IsCoordinate (λ (s : ℕ). pos (1000 * s)) 0 n (λ s l m. height_small s (omega arith)))
+all_heights seed n k h = subst (AllByRecursion IsCoordinate) (sym (heights_are seed n k))
+    (all_range IsCoordinate (λ (s : ℕ). pos (1000 * s)) 0 n (λ s l m. height_small s (omega arith)))
 
 all_points : (seed n k : ℕ) → AllByRecursion IsSpot (points (stack seed n k))
-all_points seed n k = subst (AllByRecursion IsSpot) (sym (points_are seed n k)) (all_flat IsSpot (λ (c : ContourParts). c.points) (map (contour seed k) (range_with_len 0 n)) (all_range (λ (c : ContourParts). AllByRecursion IsSpot c.points) (contour seed k) 0 n (λ s l m. spots_are seed k s)))
+all_points seed n k = subst (AllByRecursion IsSpot) (sym (points_are seed n k))
+    (all_flat IsSpot (λ (c : ContourParts). c.points) (map (contour seed k) (range_with_len 0 n))
+    (all_range (λ (c : ContourParts). AllByRecursion IsSpot c.points) (contour seed k) 0 n
+    (λ s l m. spots_are seed k s)))
 
-all_counts : (seed n k : ℕ) → 3 ≤ k → k ≤ 1000 → AllByRecursion (λ z. (pos 3 ≤ℤ z) × (z ≤ℤ pos MAX_CONTOUR_VERTICES)) (counts (stack seed n k))
-all_counts seed n k h l = subst (AllByRecursion (λ z. (pos 3 ≤ℤ z) × (z ≤ℤ pos MAX_CONTOUR_VERTICES))) (sym (counts_are seed n k)) (all_range (λ z. (pos 3 ≤ℤ z) × (z ≤ℤ pos MAX_CONTOUR_VERTICES)) (λ (s : ℕ). pos k) 0 n (λ s a b. (omega (arith, ints), omega (arith, ints))))
+all_counts : (seed n k : ℕ) → 3 ≤ k → k ≤ 1000
+    → AllByRecursion (λ z. (pos 3 ≤ℤ z) × (z ≤ℤ pos MAX_CONTOUR_VERTICES)) (counts (stack seed n k))
+all_counts seed n k h l = subst (AllByRecursion (λ z. (pos 3 ≤ℤ z) × (z ≤ℤ pos MAX_CONTOUR_VERTICES)))
+    (sym (counts_are seed n k)) (all_range (λ z. (pos 3 ≤ℤ z) × (z ≤ℤ pos MAX_CONTOUR_VERTICES)) (λ (s : ℕ). pos k) 0 n
+    (λ s a b. (omega (arith, ints), omega (arith, ints))))
 
-all_sums : (seed n k : ℕ) → k ≤ 1000 → AllByRecursion (λ m. m ≤ MAX_SECTION_VERTICES) (map section_vertices (stack seed n k))
+all_sums : (seed n k : ℕ) → k ≤ 1000
+    → AllByRecursion (λ m. m ≤ MAX_SECTION_VERTICES) (map section_vertices (stack seed n k))
 unfolding stack
-all_sums seed n k h = all_map (λ (m : ℕ). m ≤ MAX_SECTION_VERTICES) section_vertices (map (section seed k) (range_with_len 0 n)) (all_range (λ (s : SectionParts). section_vertices s ≤ MAX_SECTION_VERTICES) (section seed k) 0 n (λ s l m. omega arith))
+all_sums seed n k h = all_map (λ (m : ℕ). m ≤ MAX_SECTION_VERTICES) section_vertices
+    (map (section seed k) (range_with_len 0 n))
+    (all_range (λ (s : SectionParts). section_vertices s ≤ MAX_SECTION_VERTICES) (section seed k) 0 n
+    (λ s l m. omega arith))
 
 total : (seed n k : ℕ) → n ≤ 64 → k ≤ 1000 → sum_by asked (counts (stack seed n k)) ≤ MAX_VERTICES
-total seed n k h l = omega (arith, ap (sum_by asked) (counts_are seed n k), sum_same asked (λ (s : ℕ). pos k) k 0 n (λ s. refl), mul-le-mul h l)
+total seed n k h l = omega (
+  arith,
+  ap (sum_by asked) (counts_are seed n k),
+  sum_same asked (λ (s : ℕ). pos k) k 0 n (λ s. refl),
+  mul-le-mul h l,
+)
 
 how_many_names : (seed n k : ℕ) → length (names (stack seed n k)) ≡ n
 how_many_names seed n k = ap length (names_are seed n k) ∙ length-map-range_with_len name 0 n
@@ -90,7 +112,8 @@ how_many_heights seed n k = ap length (heights_are seed n k) ∙ length-map-rang
 
 how_many_contours : (seed n k : ℕ) → length (contours_of (stack seed n k)) ≡ n
 unfolding stack
-how_many_contours seed n k = ap length (contours_are seed k (range_with_len 0 n)) ∙ length-map-range_with_len (contour seed k) 0 n
+how_many_contours seed n k = ap length (contours_are seed k (range_with_len 0 n))
+    ∙ length-map-range_with_len (contour seed k) 0 n
 
 lawful : (seed n k : ℕ) → n ≤ 64 → 3 ≤ k → k ≤ 1000 → IsLawful (demo seed n k)
 unfolding demo stack
@@ -117,6 +140,10 @@ demo_accepted seed n k g h l m = record {
 }
 
 -- the joined sections are the stack
-pub made_is : (seed n k : ℕ) (sections : List SectionParts) (links : List LinkParts) → sections ≡ map (section seed k) (range_with_len 0 n) → links ≡ [] → record { cost = span; rule = Overlap; sections = sections; links = links } ≡ demo seed n k
+pub made_is : (seed n k : ℕ) (sections : List SectionParts) (links : List LinkParts)
+    → sections ≡ map (section seed k) (range_with_len 0 n) → links ≡ []
+    → record { cost = span; rule = Overlap; sections = sections; links = links } ≡ demo seed n k
 unfolding demo
-made_is seed n k sections links e f = ap₂ (λ (s : List SectionParts) (l : List LinkParts). record { cost = span; rule = Overlap; sections = s; links = l }) e f
+made_is seed n k sections links e f =
+    ap₂ (λ (s : List SectionParts) (l : List LinkParts).
+    record { cost = span; rule = Overlap; sections = s; links = l }) e f

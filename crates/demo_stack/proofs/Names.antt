@@ -12,8 +12,10 @@ use Rattle.demo_stack.specs.Demo.{name}
 -- each is a name
 pub name_is : (s : ℕ) → s < 64 → is_name (name s) ≡ true
 name_is s h =
-    let l : length (name s) ≤ MAX_NAME_BYTES = omega (arith, length-decimal-le 2 s (omega arith) (omega arith) (omega arith)) in
-    ap₂ (λ (a b : Bool). a && b) (ap₂ (λ (a b : Bool). a && b) (le-leb 1 (length (name s)) (omega arith)) (le-leb (length (name s)) MAX_NAME_BYTES l)) (digits_name (decimal s) (digits_decimal numerals s (omega arith)))
+    let l : length (name s) ≤ MAX_NAME_BYTES =
+    omega (arith, length-decimal-le 2 s (omega arith) (omega arith) (omega arith)) in
+    ap₂ (λ (a b : Bool). a && b) (ap₂ (λ (a b : Bool). a && b) (le-leb 1 (length (name s)) (omega arith))
+    (le-leb (length (name s)) MAX_NAME_BYTES l)) (digits_name (decimal s) (digits_decimal numerals s (omega arith)))
 
 -- no two are equal
 pub name_one : (s t : ℕ) → s < 64 → t < 64 → name s ≡ name t → s ≡ t

@@ -26,5 +26,7 @@ drawn_small r z h k = omega (arith, unsigned_abs-mul (pos r) z, mul-le-mul h k)
 
 pub spot_in_range : (state k t : ℕ) → t < k → IsSpot (demo_spot state k t)
 spot_in_range state k t h =
-    let p = place_below t k h in
-    (drawn_small (radius state) (direction (place t k)).0 (radius_small state) (direction_x (place t k) p), drawn_small (radius state) (direction (place t k)).1 (radius_small state) (direction_y (place t k) p))
+    let p = place_below t k h in (
+      drawn_small (radius state) (direction (place t k)).0 (radius_small state) (direction_x (place t k) p),
+      drawn_small (radius state) (direction (place t k)).1 (radius_small state) (direction_y (place t k) p),
+    )

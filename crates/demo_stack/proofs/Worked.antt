@@ -55,7 +55,16 @@ vertex-first = refl
 pub triangle : demo 7 1 3 ≡ record {
   cost = span;
   rule = Overlap;
-  sections = record { z = pos 0; contours = record { name = codes "c0"; count = pos 3; points = (pos 164000, negsuc 163999) ∷ (pos 35404, pos 106000) ∷ (negsuc 167999, negsuc 55943) ∷ [] } ∷ [] } ∷ [];
+  sections = record {
+    z = pos 0;
+    contours =
+        record {
+          name = codes "c0";
+          count = pos 3;
+          points =
+              (pos 164000, negsuc 163999) ∷ (pos 35404, pos 106000) ∷ (negsuc 167999, negsuc 55943) ∷ [];
+        } ∷ [];
+  } ∷ [];
   links = [];
 }
 unfolding demo state_after digits

@@ -6,33 +6,46 @@ use Rattle.std.proofs.lemmas.Grind.{common_steps}
 use Rattle.std.proofs.lemmas.List.{map-append, take_all, get_or_append_left, get_or_push}
 use Rattle.fku_types.proofs.ListLaws.{take_next}
 
-pub put_next : {X : Type 0} (t : X → List ℕ) (xs : List X) (i : ℕ) (x : X) (start was now : List ℕ) → i < length xs → x ≡ get_or xs i x → was ≡ start ++ flat_map t (take i xs) → now ≡ was ++ t x → now ≡ start ++ flat_map t (take (i + 1) xs)
+pub put_next : {X : Type 0} (t : X → List ℕ) (xs : List X) (i : ℕ) (x : X) (start was now : List ℕ) → i < length xs
+    → x ≡ get_or xs i x → was ≡ start ++ flat_map t (take i xs) → now ≡ was ++ t x
+    → now ≡ start ++ flat_map t (take (i + 1) xs)
 put_next t xs i x start was now lt is so e = grind (arith, common_steps)
 
-pub put_all : {X : Type 0} (t : X → List ℕ) (xs : List X) (i : ℕ) (start was : List ℕ) → length xs ≤ i → was ≡ start ++ flat_map t (take i xs) → was ≡ start ++ flat_map t xs
+pub put_all : {X : Type 0} (t : X → List ℕ) (xs : List X) (i : ℕ) (start was : List ℕ) → length xs ≤ i
+    → was ≡ start ++ flat_map t (take i xs) → was ≡ start ++ flat_map t xs
 put_all t xs i start was le so = grind (arith, common_steps)
 
-pub copied_next : {X Y : Type 0} (f : X → Y) (xs : List X) (i : ℕ) (x y : X) (was now : List X) → i < length xs → x ≡ get_or xs i x → map f was ≡ map f (take i xs) → f y ≡ f x → now ≡ was ++ (y ∷ []) → map f now ≡ map f (take (i + 1) xs)
+pub copied_next : {X Y : Type 0} (f : X → Y) (xs : List X) (i : ℕ) (x y : X) (was now : List X) → i < length xs
+    → x ≡ get_or xs i x → map f was ≡ map f (take i xs) → f y ≡ f x → now ≡ was ++ (y ∷ [])
+    → map f now ≡ map f (take (i + 1) xs)
 copied_next f xs i x y was now lt is so same e = grind (arith, common_steps)
 
-pub copied_all : {X Y : Type 0} (f : X → Y) (xs : List X) (i : ℕ) (was : List X) → length xs ≤ i → map f was ≡ map f (take i xs) → map f was ≡ map f xs
+pub copied_all : {X Y : Type 0} (f : X → Y) (xs : List X) (i : ℕ) (was : List X) → length xs ≤ i
+    → map f was ≡ map f (take i xs) → map f was ≡ map f xs
 copied_all f xs i was le so = grind (arith, common_steps)
 
 -- the view of the new items is an image of the view of the old ones
-pub image_next : {X Y Z W : Type 0} (p : Y → W) (q : X → Z) (f : Z → W) (xs : List X) (i : ℕ) (x : X) (y : Y) (was now : List Y) → i < length xs → x ≡ get_or xs i x → map p was ≡ map f (map q (take i xs)) → p y ≡ f (q x) → now ≡ was ++ y ∷ []
+pub image_next : {X Y Z W : Type 0} (p : Y → W) (q : X → Z) (f : Z → W) (xs : List X) (i : ℕ) (x : X) (y : Y)
+    (was now : List Y) → i < length xs → x ≡ get_or xs i x → map p was ≡ map f (map q (take i xs)) → p y ≡ f (q x)
+    → now ≡ was ++ y ∷ []
     → map p now ≡ map f (map q (take (i + 1) xs))
 image_next {X = X} {W = W} p q f xs i x y was now lt is so here e =
     ap (map p) e ∙ map-append p was (y ∷ []) ∙ ap₂ (λ (ws : List W) (w : W). ws ++ w ∷ []) so here
-    ∙ sym (ap (λ (ys : List X). map f (map q ys)) (take_next xs i x lt is) ∙ ap (map f) (map-append q (take i xs) (x ∷ [])) ∙ map-append f (map q (take i xs)) (q x ∷ []))
+    ∙ sym (ap (λ (ys : List X). map f (map q ys)) (take_next xs i x lt is)
+    ∙ ap (map f) (map-append q (take i xs) (x ∷ [])) ∙ map-append f (map q (take i xs)) (q x ∷ []))
 
-pub image_all : {X Y Z W : Type 0} (p : Y → W) (q : X → Z) (f : Z → W) (xs : List X) (i : ℕ) (was : List Y) → length xs ≤ i → map p was ≡ map f (map q (take i xs)) → map p was ≡ map f (map q xs)
+pub image_all : {X Y Z W : Type 0} (p : Y → W) (q : X → Z) (f : Z → W) (xs : List X) (i : ℕ) (was : List Y)
+    → length xs ≤ i → map p was ≡ map f (map q (take i xs)) → map p was ≡ map f (map q xs)
 image_all {X = X} p q f xs i was le so = so ∙ ap (λ (ys : List X). map f (map q ys)) (take_all i xs le)
 
 -- what holds of each item at its place holds with one more item, of which it holds
-pub each_next : {X : Type 0} (P : ℕ → X → Type 0) (d : X) (was now : List X) (i : ℕ) (x : X) → now ≡ was ++ x ∷ [] → length was ≡ i → ((k : ℕ) → k < i → P k (get_or was k d)) → P i x → (k : ℕ) → k < i + 1 → P k (get_or now k d)
+pub each_next : {X : Type 0} (P : ℕ → X → Type 0) (d : X) (was now : List X) (i : ℕ) (x : X) → now ≡ was ++ x ∷ []
+    → length was ≡ i → ((k : ℕ) → k < i → P k (get_or was k d)) → P i x → (k : ℕ) → k < i + 1 → P k (get_or now k d)
 each_next {X = X} P d was now i x e n before here k lt =
     let read : (j : ℕ) → get_or now j d ≡ get_or (was ++ x ∷ []) j d = λ j. ap (λ (ys : List X). get_or ys j d) e in
     elim (cases_lt k i) [
-      | inl less ↦ subst (P k) (sym (read k ∙ get_or_append_left was (x ∷ []) d k (omega (arith, less, n)))) (before k less)
-      | inr ge ↦ (let same : i ≡ k = omega (arith, lt, ge) in subst (λ (j : ℕ). P j (get_or now j d)) same (subst (P i) (sym (read i ∙ get_or_push was x d i n)) here))
+      | inl less ↦ subst (P k) (sym (read k ∙ get_or_append_left was (x ∷ []) d k (omega (arith, less, n))))
+          (before k less)
+      | inr ge ↦ (let same : i ≡ k = omega (arith, lt, ge) in
+          subst (λ (j : ℕ). P j (get_or now j d)) same (subst (P i) (sym (read i ∙ get_or_push was x d i n)) here))
     ]

@@ -16,5 +16,7 @@ name_byte-small b h = grind (arith, nat_tests)
 
 pub name_is_text : (bytes : List ℕ) → is_name bytes ≡ true → IsUtf8 bytes
 name_is_text bytes h =
-    let all = (and_parts (nat_le 1 (length bytes) && nat_le (length bytes) MAX_NAME_BYTES) (list_all is_name_byte bytes) h).1 in
-    IsUtf8-from_ascii bytes (IsAscii-from_all bytes (λ k d inside. name_byte-small _ (AllPass-from_list_all is_name_byte bytes all k d inside)))
+    let all = (and_parts (nat_le 1 (length bytes) && nat_le (length bytes) MAX_NAME_BYTES) (list_all is_name_byte bytes)
+    h).1 in
+    IsUtf8-from_ascii bytes (IsAscii-from_all bytes
+    (λ k d inside. name_byte-small _ (AllPass-from_list_all is_name_byte bytes all k d inside)))

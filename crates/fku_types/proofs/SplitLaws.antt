@@ -6,7 +6,8 @@ pub record Before {A : Type 0} (bs : List A) (x : A) (cs : List A) : Type 0 wher
   pub more : List A
   pub split : cs ≡ bs ++ x ∷ more
 
-pub compare : {A : Type 0} (bs : List A) (x : A) (us cs : List A) (y : A) (vs : List A) → bs ++ x ∷ us ≡ cs ++ y ∷ vs → ((bs ≡ cs) × (x ≡ y)) ⊎ (Before bs x cs ⊎ Before cs y bs)
+pub compare : {A : Type 0} (bs : List A) (x : A) (us cs : List A) (y : A) (vs : List A) → bs ++ x ∷ us ≡ cs ++ y ∷ vs
+    → ((bs ≡ cs) × (x ≡ y)) ⊎ (Before bs x cs ⊎ Before cs y bs)
 compare [] x us [] y vs e = inl (refl, (cc))
 compare [] x us (c ∷ cs) y vs e = let d : c ≡ x = cc in inr (inl (record { more = cs; split = ap (λ z. z ∷ cs) d }))
 compare (b ∷ bs) x us [] y vs e = let d : b ≡ y = cc in inr (inr (record { more = bs; split = ap (λ z. z ∷ bs) d }))

@@ -16,8 +16,10 @@ use Rattle.landmarks.proofs.Rounds.{word_cost-same}
 use Rattle.landmarks.proofs.Through.{AreInside, AreLaid, GoesThrough}
 
 -- its cost, where its first part is taken from the piece's first place
-cost_parts : (a : Arcs) (m n i j : ℕ) (p : Piece) (w : List Step) → Periodic a m n → p.from.row < m → p.from.col < n → i % m ≡ p.from.row → j % n ≡ p.from.col → HasLetters p.rows p.cols (take (p.rows + p.cols) w)
-    → word_cost a i j w ≡ word_cost a p.from.row p.from.col (take (p.rows + p.cols) w) + word_cost a (i + p.rows) (j + p.cols) (drop (p.rows + p.cols) w)
+cost_parts : (a : Arcs) (m n i j : ℕ) (p : Piece) (w : List Step) → Periodic a m n → p.from.row < m → p.from.col < n
+    → i % m ≡ p.from.row → j % n ≡ p.from.col → HasLetters p.rows p.cols (take (p.rows + p.cols) w)
+    → word_cost a i j w ≡ word_cost a p.from.row p.from.col (take (p.rows + p.cols) w)
+    + word_cost a (i + p.rows) (j + p.cols) (drop (p.rows + p.cols) w)
 cost_parts a m n i j p w per lt lt' e f l =
     let u = take (p.rows + p.cols) w in
     let b = drop (p.rows + p.cols) w in
@@ -26,18 +28,28 @@ cost_parts a m n i j p w per lt lt' e f l =
       ap (word_cost a i j) (take-append-drop (p.rows + p.cols) w),
       word_cost-append a i j u b,
       word_cost-same a m n per i p.from.row j p.from.col u (e ∙ sym (mod-eq_of_lt lt)) (f ∙ sym (mod-eq_of_lt lt')),
-      word_cost-at a (i + count_v u) (i + p.rows) (j + count_h u) (j + p.cols) b (ap (λ (x : ℕ). i + x) l.v) (ap (λ (x : ℕ). j + x) l.h),
+      word_cost-at a (i + count_v u) (i + p.rows) (j + count_h u) (j + p.cols) b (ap (λ (x : ℕ). i + x) l.v)
+          (ap (λ (x : ℕ). j + x) l.h),
     )
 
 -- the parts' costs add up to the word's
-pub cost_sum : (a : Arcs) (m n i j : ℕ) (ps : List Piece) (w : List Step) → Periodic a m n → AreInside m n ps → AreLaid m n i j ps → AreParts a ps w → signed_sum (λ p. p.cost) ps ≡ pos (word_cost a i j w)
+pub cost_sum : (a : Arcs) (m n i j : ℕ) (ps : List Piece) (w : List Step) → Periodic a m n → AreInside m n ps
+    → AreLaid m n i j ps → AreParts a ps w → signed_sum (λ p. p.cost) ps ≡ pos (word_cost a i j w)
 cost_sum a m n i j [] w per k l q = ap (λ (x : List Step). pos (word_cost a i j x)) (sym q)
 cost_sum a m n i j (p ∷ ps) w per k l q =
-    omega (arith, ints, q.0.cost, cost_parts a m n i j p w per k.0.0 k.0.1 l.0 l.1 q.0.letters, cost_sum a m n (i + p.rows) (j + p.cols) ps (drop (p.rows + p.cols) w) per k.1 l.2 q.1)
+    omega (
+      arith,
+      ints,
+      q.0.cost,
+      cost_parts a m n i j p w per k.0.0 k.0.1 l.0 l.1 q.0.letters,
+      cost_sum a m n (i + p.rows) (j + p.cols) ps (drop (p.rows + p.cols) w) per k.1 l.2 q.1,
+    )
 
 -- along a word inside a piece the values rise by at most its cost
-climbs : (a : Arcs) (p : Piece) → IsBound a p → (r c : ℕ) (w : List Step) → r + count_v w ≤ p.rows → c + count_h w ≤ p.cols
-    → phi_at p (r + count_v w) (c + count_h w) ≤ℤ (phi_at p r c +ℤ pos (word_cost a (p.from.row + r) (p.from.col + c) w))
+climbs : (a : Arcs) (p : Piece) → IsBound a p → (r c : ℕ) (w : List Step) → r + count_v w ≤ p.rows
+    → c + count_h w ≤ p.cols
+    → phi_at p (r + count_v w) (c + count_h w) ≤ℤ
+    (phi_at p r c +ℤ pos (word_cost a (p.from.row + r) (p.from.col + c) w))
 climbs a p b r c [] le le' = omega (arith, ints, at (r + 0) r (c + 0) c (omega arith) (omega arith))
   where
     at : (r r' c c' : ℕ) → r ≡ r' → c ≡ c' → phi_at p r c ≡ phi_at p r' c'
@@ -68,7 +80,8 @@ climbs a p b r c (H ∷ w) le le' =
     more r x = omega arith
 
 -- so no word from the first place to the last one costs less than the piece
-pub bound_part : (a : Arcs) (p : Piece) (w : List Step) → IsBound a p → HasLetters p.rows p.cols w → p.cost ≤ℤ pos (word_cost a p.from.row p.from.col w)
+pub bound_part : (a : Arcs) (p : Piece) (w : List Step) → IsBound a p → HasLetters p.rows p.cols w
+    → p.cost ≤ℤ pos (word_cost a p.from.row p.from.col w)
 bound_part a p w b l =
     omega (
       arith,
@@ -83,7 +96,9 @@ bound_part a p w b l =
     zero_add x y e = omega arith
 
 -- and no word through the pieces costs less than they do together
-pub bound_sum : (a : Arcs) (m n i j : ℕ) (ps : List Piece) (w : List Step) → Periodic a m n → AreInside m n ps → AreLaid m n i j ps → AllByRecursion (IsBound a) ps → GoesThrough ps w → signed_sum (λ p. p.cost) ps ≤ℤ pos (word_cost a i j w)
+pub bound_sum : (a : Arcs) (m n i j : ℕ) (ps : List Piece) (w : List Step) → Periodic a m n → AreInside m n ps
+    → AreLaid m n i j ps → AllByRecursion (IsBound a) ps → GoesThrough ps w
+    → signed_sum (λ p. p.cost) ps ≤ℤ pos (word_cost a i j w)
 bound_sum a m n i j [] w per k l b q = omega (arith, ints)
 bound_sum a m n i j (p ∷ ps) w per k l b q =
     omega (
@@ -95,7 +110,8 @@ bound_sum a m n i j (p ∷ ps) w per k l b q =
     )
 
 -- words of one length compare as their fronts, and then as their backs
-not_after-append : (u v w x : List Step) → length u ≡ length v → IsNotAfter u v → IsNotAfter w x → IsNotAfter (u ++ w) (v ++ x)
+not_after-append : (u v w x : List Step) → length u ≡ length v → IsNotAfter u v → IsNotAfter w x
+    → IsNotAfter (u ++ w) (v ++ x)
 not_after-append [] [] w x e p q = q
 not_after-append [] (s ∷ v) w x e p q = absurd (omega (arith, e))
 not_after-append (s ∷ u) [] w x e p q = absurd (omega (arith, e))
@@ -105,7 +121,8 @@ not_after-append (H ∷ u) (V ∷ v) w x e p q = absurd p
 not_after-append (H ∷ u) (H ∷ v) w x e p q = not_after-append u v w x (omega (arith, e)) p q
 
 -- canonical parts cost least together
-least_parts : (a : Arcs) (m n i j : ℕ) (ps : List Piece) (w u : List Step) → Periodic a m n → AreInside m n ps → AreLaid m n i j ps → AreOfCanonicalWords a ps w → GoesThrough ps u → word_cost a i j w ≤ word_cost a i j u
+least_parts : (a : Arcs) (m n i j : ℕ) (ps : List Piece) (w u : List Step) → Periodic a m n → AreInside m n ps
+    → AreLaid m n i j ps → AreOfCanonicalWords a ps w → GoesThrough ps u → word_cost a i j w ≤ word_cost a i j u
 least_parts a m n i j [] w u per k l f g = omega (arith, ap (word_cost a i j) f)
 least_parts a m n i j (p ∷ ps) w u per k l f g =
     omega (
@@ -114,11 +131,14 @@ least_parts a m n i j (p ∷ ps) w u per k l f g =
       cost_parts a m n i j p u per k.0.0 k.0.1 l.0 l.1 g.0,
       f.0.least,
       distance-le a p.from.row p.from.col p.rows p.cols (take (p.rows + p.cols) u) g.0,
-      least_parts a m n (i + p.rows) (j + p.cols) ps (drop (p.rows + p.cols) w) (drop (p.rows + p.cols) u) per k.1 l.2 f.1 g.1,
+      least_parts a m n (i + p.rows) (j + p.cols) ps (drop (p.rows + p.cols) w) (drop (p.rows + p.cols) u) per k.1 l.2
+          f.1 g.1,
     )
 
 -- and together they are first among the words through the pieces that cost no more
-pub first_parts : (a : Arcs) (m n i j : ℕ) (ps : List Piece) (w u : List Step) → Periodic a m n → AreInside m n ps → AreLaid m n i j ps → AreOfCanonicalWords a ps w → GoesThrough ps u → word_cost a i j u ≤ word_cost a i j w → IsNotAfter w u
+pub first_parts : (a : Arcs) (m n i j : ℕ) (ps : List Piece) (w u : List Step) → Periodic a m n → AreInside m n ps
+    → AreLaid m n i j ps → AreOfCanonicalWords a ps w → GoesThrough ps u → word_cost a i j u ≤ word_cost a i j w
+    → IsNotAfter w u
 first_parts a m n i j [] w u per k l f g le = subst (λ (x : List Step). IsNotAfter x u) (sym f) tt
 first_parts a m n i j (p ∷ ps) w u per k l f g le =
     let w1 = take (p.rows + p.cols) w in
@@ -130,6 +150,9 @@ first_parts a m n i j (p ∷ ps) w u per k l f g le =
     let d = distance-le a p.from.row p.from.col p.rows p.cols u1 g.0 in
     let rest = least_parts a m n (i + p.rows) (j + p.cols) ps w2 u2 per k.1 l.2 f.1 g.1 in
     let head = f.0.first u1 g.0 (omega (arith, cw, cu, d, rest, le, f.0.least)) in
-    let tail = first_parts a m n (i + p.rows) (j + p.cols) ps w2 u2 per k.1 l.2 f.1 g.1 (omega (arith, cw, cu, d, le, f.0.least)) in
-    let len : length w1 ≡ length u1 = omega (arith, length-letters w1, length-letters u1, f.0.letters.v, f.0.letters.h, g.0.v, g.0.h) in
-    subst₂ IsNotAfter (take-append-drop (p.rows + p.cols) w) (take-append-drop (p.rows + p.cols) u) (not_after-append w1 u1 w2 u2 len head tail)
+    let tail = first_parts a m n (i + p.rows) (j + p.cols) ps w2 u2 per k.1 l.2 f.1 g.1
+    (omega (arith, cw, cu, d, le, f.0.least)) in
+    let len : length w1 ≡ length u1 = omega
+    (arith, length-letters w1, length-letters u1, f.0.letters.v, f.0.letters.h, g.0.v, g.0.h) in
+    subst₂ IsNotAfter (take-append-drop (p.rows + p.cols) w) (take-append-drop (p.rows + p.cols) u)
+    (not_after-append w1 u1 w2 u2 len head tail)

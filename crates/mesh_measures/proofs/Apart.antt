@@ -16,7 +16,8 @@ not_less a b h = grind (arith, ints)
 down : (p a m : ℤ) → p ≤ℤ a → a ≤ℤ m → p ≤ℤ m
 down p a m h k = omega (arith, ints)
 
-by_x : (s t : Boxed) → IsBoxed s → IsBoxed t → s.greatest.x ≤ℤ t.least.x → Parted (λ p. p.x) s.corners t.corners s.greatest.x
+by_x : (s t : Boxed) → IsBoxed s → IsBoxed t → s.greatest.x ≤ℤ t.least.x
+    → Parted (λ p. p.x) s.corners t.corners s.greatest.x
 by_x s t u v h = record {
   sa = u.a.under.x;
   sb = u.b.under.x;
@@ -26,7 +27,8 @@ by_x s t u v h = record {
   tc = down s.greatest.x t.least.x t.corners.c.x h v.c.over.x;
 }
 
-by_y : (s t : Boxed) → IsBoxed s → IsBoxed t → s.greatest.y ≤ℤ t.least.y → Parted (λ p. p.y) s.corners t.corners s.greatest.y
+by_y : (s t : Boxed) → IsBoxed s → IsBoxed t → s.greatest.y ≤ℤ t.least.y
+    → Parted (λ p. p.y) s.corners t.corners s.greatest.y
 by_y s t u v h = record {
   sa = u.a.under.y;
   sb = u.b.under.y;
@@ -36,7 +38,8 @@ by_y s t u v h = record {
   tc = down s.greatest.y t.least.y t.corners.c.y h v.c.over.y;
 }
 
-by_z : (s t : Boxed) → IsBoxed s → IsBoxed t → s.greatest.z ≤ℤ t.least.z → Parted (λ p. p.z) s.corners t.corners s.greatest.z
+by_z : (s t : Boxed) → IsBoxed s → IsBoxed t → s.greatest.z ≤ℤ t.least.z
+    → Parted (λ p. p.z) s.corners t.corners s.greatest.z
 by_z s t u v h = record {
   sa = u.a.under.z;
   sb = u.b.under.z;
@@ -64,10 +67,22 @@ unmet s t u v h =
     let z = overlap s.least.z s.greatest.z t.least.z t.greatest.z in
     let x = overlap s.least.x s.greatest.x t.least.x t.greatest.x in
     elim (and_cases (y && z) x h) [
-      | inr e ↦ elim (and_cases (int_lt s.least.x t.greatest.x) (int_lt t.least.x s.greatest.x) e) [ inl f ↦ turned s t (before_x t s v u (not_less s.least.x t.greatest.x f)) | inr f ↦ before_x s t u v (not_less t.least.x s.greatest.x f) ]
+      | inr e ↦ elim (and_cases (int_lt s.least.x t.greatest.x) (int_lt t.least.x s.greatest.x) e) [
+        | inl f ↦ turned s t (before_x t s v u (not_less s.least.x t.greatest.x f))
+        | inr f ↦ before_x s t u v
+            (not_less t.least.x s.greatest.x f)
+      ]
       | inl g ↦
           elim (and_cases y z g) [
-            | inr e ↦ elim (and_cases (int_lt s.least.z t.greatest.z) (int_lt t.least.z s.greatest.z) e) [ inl f ↦ turned s t (before_z t s v u (not_less s.least.z t.greatest.z f)) | inr f ↦ before_z s t u v (not_less t.least.z s.greatest.z f) ]
-            | inl e ↦ elim (and_cases (int_lt s.least.y t.greatest.y) (int_lt t.least.y s.greatest.y) e) [ inl f ↦ turned s t (before_y t s v u (not_less s.least.y t.greatest.y f)) | inr f ↦ before_y s t u v (not_less t.least.y s.greatest.y f) ]
+            | inr e ↦ elim (and_cases (int_lt s.least.z t.greatest.z) (int_lt t.least.z s.greatest.z) e) [
+              | inl f ↦ turned s t (before_z t s v u (not_less s.least.z t.greatest.z f))
+              | inr f ↦ before_z s t u v
+                  (not_less t.least.z s.greatest.z f)
+            ]
+            | inl e ↦ elim (and_cases (int_lt s.least.y t.greatest.y) (int_lt t.least.y s.greatest.y) e) [
+              | inl f ↦ turned s t (before_y t s v u (not_less s.least.y t.greatest.y f))
+              | inr f ↦ before_y s t u v
+                  (not_less t.least.y s.greatest.y f)
+            ]
           ]
     ]

@@ -21,24 +21,29 @@ last_first : (x y z : ℤ) → (y +ℤ z) +ℤ x ≡ (x +ℤ y) +ℤ z
 last_first x y z = omega (arith, ints)
 
 determinant_moved : (p q r : Point) → determinant (moved p) (moved q) (moved r) ≡ determinant p q r
-determinant_moved p q r = last_first (p.x *ℤ product q.y q.z r.y r.z) (p.y *ℤ product q.z q.x r.z r.x) (p.z *ℤ product q.x q.y r.x r.y)
+determinant_moved p q r = last_first (p.x *ℤ product q.y q.z r.y r.z) (p.y *ℤ product q.z q.x r.z r.x)
+    (p.z *ℤ product q.x q.y r.x r.y)
 
 turn_moved : (a b c d : Point) → turn (moved a) (moved b) (moved c) (moved d) ≡ turn a b c d
 unfolding turn
 turn_moved a b c d = determinant_moved (seen_from a b) (seen_from a c) (seen_from a d)
 
 -- the point where an edge meets the plane of a triangle, in y and in z
-pub mean_y : (p q a b c : Point) → determinant (seen_from p a) (seen_from p b) (seen_from p c) *ℤ (q.y -ℤ p.y) ≡ ((turn p q b c *ℤ (a.y -ℤ p.y)) +ℤ (turn p q c a *ℤ (b.y -ℤ p.y))) +ℤ (turn p q a b *ℤ (c.y -ℤ p.y))
+pub mean_y : (p q a b c : Point) → determinant (seen_from p a) (seen_from p b) (seen_from p c) *ℤ (q.y -ℤ p.y)
+    ≡ ((turn p q b c *ℤ (a.y -ℤ p.y)) +ℤ (turn p q c a *ℤ (b.y -ℤ p.y))) +ℤ (turn p q a b *ℤ (c.y -ℤ p.y))
 mean_y p q a b c =
     sym (ap (λ (k : ℤ). k *ℤ (q.y -ℤ p.y)) (determinant_moved (seen_from p a) (seen_from p b) (seen_from p c)))
     ∙ mean_x (moved p) (moved q) (moved a) (moved b) (moved c)
-    ∙ ap₂ ◌+ℤ◌ (ap₂ ◌+ℤ◌ (ap (λ (k : ℤ). k *ℤ (a.y -ℤ p.y)) (turn_moved p q b c)) (ap (λ (k : ℤ). k *ℤ (b.y -ℤ p.y)) (turn_moved p q c a))) (ap (λ (k : ℤ). k *ℤ (c.y -ℤ p.y)) (turn_moved p q a b))
+    ∙ ap₂ ◌+ℤ◌ (ap₂ ◌+ℤ◌ (ap (λ (k : ℤ). k *ℤ (a.y -ℤ p.y)) (turn_moved p q b c))
+    (ap (λ (k : ℤ). k *ℤ (b.y -ℤ p.y)) (turn_moved p q c a))) (ap (λ (k : ℤ). k *ℤ (c.y -ℤ p.y)) (turn_moved p q a b))
 
-pub mean_z : (p q a b c : Point) → determinant (seen_from p a) (seen_from p b) (seen_from p c) *ℤ (q.z -ℤ p.z) ≡ ((turn p q b c *ℤ (a.z -ℤ p.z)) +ℤ (turn p q c a *ℤ (b.z -ℤ p.z))) +ℤ (turn p q a b *ℤ (c.z -ℤ p.z))
+pub mean_z : (p q a b c : Point) → determinant (seen_from p a) (seen_from p b) (seen_from p c) *ℤ (q.z -ℤ p.z)
+    ≡ ((turn p q b c *ℤ (a.z -ℤ p.z)) +ℤ (turn p q c a *ℤ (b.z -ℤ p.z))) +ℤ (turn p q a b *ℤ (c.z -ℤ p.z))
 mean_z p q a b c =
     sym (ap (λ (k : ℤ). k *ℤ (q.z -ℤ p.z)) (determinant_moved (seen_from p a) (seen_from p b) (seen_from p c)))
     ∙ mean_y (moved p) (moved q) (moved a) (moved b) (moved c)
-    ∙ ap₂ ◌+ℤ◌ (ap₂ ◌+ℤ◌ (ap (λ (k : ℤ). k *ℤ (a.z -ℤ p.z)) (turn_moved p q b c)) (ap (λ (k : ℤ). k *ℤ (b.z -ℤ p.z)) (turn_moved p q c a))) (ap (λ (k : ℤ). k *ℤ (c.z -ℤ p.z)) (turn_moved p q a b))
+    ∙ ap₂ ◌+ℤ◌ (ap₂ ◌+ℤ◌ (ap (λ (k : ℤ). k *ℤ (a.z -ℤ p.z)) (turn_moved p q b c))
+    (ap (λ (k : ℤ). k *ℤ (b.z -ℤ p.z)) (turn_moved p q c a))) (ap (λ (k : ℤ). k *ℤ (c.z -ℤ p.z)) (turn_moved p q a b))
 
 three : (l m n l' m' n' : ℤ) → l ≡ l' → m ≡ m' → n ≡ n' → have_one_sign l m n ≡ have_one_sign l' m' n'
 three l m n l' m' n' e f g = ap₂ (λ (x y : ℤ). have_one_sign x y n) e f ∙ ap (λ (z : ℤ). have_one_sign l' m' z) g
@@ -70,7 +75,11 @@ pub apart_x : (s t : Corners) (m : ℤ) → Parted (λ p. p.x) s t m → cross s
 apart_x s t m h = parted_x s t m (record { a = h.sa; b = h.sb; c = h.sc }) (record { a = h.ta; b = h.tb; c = h.tc })
 
 pub apart_y : (s t : Corners) (m : ℤ) → Parted (λ p. p.y) s t m → cross s t ≡ false
-apart_y s t m h = sym (cross_moved s t) ∙ parted_x (moved_corners s) (moved_corners t) m (record { a = h.sa; b = h.sb; c = h.sc }) (record { a = h.ta; b = h.tb; c = h.tc })
+apart_y s t m h = sym (cross_moved s t)
+    ∙ parted_x (moved_corners s) (moved_corners t) m (record { a = h.sa; b = h.sb; c = h.sc })
+    (record { a = h.ta; b = h.tb; c = h.tc })
 
 pub apart_z : (s t : Corners) (m : ℤ) → Parted (λ p. p.z) s t m → cross s t ≡ false
-apart_z s t m h = sym (cross_moved s t) ∙ apart_y (moved_corners s) (moved_corners t) m (record { sa = h.sa; sb = h.sb; sc = h.sc; ta = h.ta; tb = h.tb; tc = h.tc })
+apart_z s t m h = sym (cross_moved s t)
+    ∙ apart_y (moved_corners s) (moved_corners t) m
+    (record { sa = h.sa; sb = h.sb; sc = h.sc; ta = h.ta; tb = h.tb; tc = h.tc })

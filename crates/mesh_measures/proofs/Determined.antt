@@ -40,7 +40,8 @@ plus_neg x y z = omega (arith, ints)
 by_x_turned : (u b c : Point) → determinant u b c ≡ ((u.x *ℤ plane b c) -ℤ (b.x *ℤ plane u c)) +ℤ (c.x *ℤ plane u b)
 by_x_turned u b c =
     by_x u b c
-    ∙ ap (λ (k : ℤ). ((u.x *ℤ plane b c) +ℤ k) +ℤ (c.x *ℤ plane u b)) (ap (λ (k : ℤ). b.x *ℤ k) (plane_turns c u) ∙ mul-neg b.x (plane u c))
+    ∙ ap (λ (k : ℤ). ((u.x *ℤ plane b c) +ℤ k) +ℤ (c.x *ℤ plane u b))
+    (ap (λ (k : ℤ). b.x *ℤ k) (plane_turns c u) ∙ mul-neg b.x (plane u c))
     ∙ plus_neg (u.x *ℤ plane b c) (b.x *ℤ plane u c) (c.x *ℤ plane u b)
 
 sum-mul : (x y z w : ℤ) → ((x +ℤ y) +ℤ z) *ℤ w ≡ ((x *ℤ w) +ℤ (y *ℤ w)) +ℤ (z *ℤ w)
@@ -50,11 +51,13 @@ part-mul : (x y z w : ℤ) → ((x -ℤ y) +ℤ z) *ℤ w ≡ ((x *ℤ w) -ℤ (
 part-mul x y z w = add-mul (x -ℤ y) z w ∙ ap (λ (k : ℤ). k +ℤ (z *ℤ w)) (sub-mul x y w)
 
 -- nine products, of which three cancel
-nine : (t x y z a b c d e f g h i l m n : ℤ) → t ≡ (x +ℤ y) +ℤ z → l ≡ (a -ℤ b) +ℤ c → m ≡ (d -ℤ e) +ℤ f → n ≡ (g -ℤ h) +ℤ i → x ≡ a → y ≡ d → z ≡ g → b ≡ f → c ≡ h → e ≡ i → t ≡ (l +ℤ m) +ℤ n
+nine : (t x y z a b c d e f g h i l m n : ℤ) → t ≡ (x +ℤ y) +ℤ z → l ≡ (a -ℤ b) +ℤ c → m ≡ (d -ℤ e) +ℤ f
+    → n ≡ (g -ℤ h) +ℤ i → x ≡ a → y ≡ d → z ≡ g → b ≡ f → c ≡ h → e ≡ i → t ≡ (l +ℤ m) +ℤ n
 nine t x y z a b c d e f g h i l m n p q r s j k o v w aa = omega (arith, ints)
 
 numbers : (u a b c kab kbc kca kua kub kuc : ℤ) → (((a *ℤ kbc) +ℤ (b *ℤ kca)) +ℤ (c *ℤ kab)) *ℤ u
-    ≡ (((((u *ℤ kbc) -ℤ (b *ℤ kuc)) +ℤ (c *ℤ kub)) *ℤ a) +ℤ ((((u *ℤ kca) -ℤ (c *ℤ kua)) +ℤ (a *ℤ kuc)) *ℤ b)) +ℤ ((((u *ℤ kab) -ℤ (a *ℤ kub)) +ℤ (b *ℤ kua)) *ℤ c)
+    ≡ (((((u *ℤ kbc) -ℤ (b *ℤ kuc)) +ℤ (c *ℤ kub)) *ℤ a) +ℤ ((((u *ℤ kca) -ℤ (c *ℤ kua)) +ℤ (a *ℤ kuc)) *ℤ b)) +ℤ
+    ((((u *ℤ kab) -ℤ (a *ℤ kub)) +ℤ (b *ℤ kua)) *ℤ c)
 numbers u a b c kab kbc kca kua kub kuc =
     nine _ ((a *ℤ kbc) *ℤ u) ((b *ℤ kca) *ℤ u) ((c *ℤ kab) *ℤ u)
     ((u *ℤ kbc) *ℤ a) ((b *ℤ kuc) *ℤ a) ((c *ℤ kub) *ℤ a)
@@ -68,8 +71,10 @@ numbers u a b c kab kbc kca kua kub kuc =
     (ends a kbc u) (ends b kca u) (ends c kab u) (ends b kuc a) (ends c kub a) (ends c kua b)
 
 -- the x of a vector times the determinant of three others, from the determinants in which it replaces one of them
-pub cramer : (u a b c : Point) → determinant a b c *ℤ u.x ≡ ((determinant u b c *ℤ a.x) +ℤ (determinant u c a *ℤ b.x)) +ℤ (determinant u a b *ℤ c.x)
+pub cramer : (u a b c : Point) → determinant a b c *ℤ u.x
+    ≡ ((determinant u b c *ℤ a.x) +ℤ (determinant u c a *ℤ b.x)) +ℤ (determinant u a b *ℤ c.x)
 cramer u a b c =
     ap (λ (k : ℤ). k *ℤ u.x) (by_x a b c)
     ∙ numbers u.x a.x b.x c.x (plane a b) (plane b c) (plane c a) (plane u a) (plane u b) (plane u c)
-    ∙ sym (ap₂ ◌+ℤ◌ (ap₂ ◌+ℤ◌ (ap (λ (k : ℤ). k *ℤ a.x) (by_x_turned u b c)) (ap (λ (k : ℤ). k *ℤ b.x) (by_x_turned u c a))) (ap (λ (k : ℤ). k *ℤ c.x) (by_x_turned u a b)))
+    ∙ sym (ap₂ ◌+ℤ◌ (ap₂ ◌+ℤ◌ (ap (λ (k : ℤ). k *ℤ a.x) (by_x_turned u b c))
+    (ap (λ (k : ℤ). k *ℤ b.x) (by_x_turned u c a))) (ap (λ (k : ℤ). k *ℤ c.x) (by_x_turned u a b)))

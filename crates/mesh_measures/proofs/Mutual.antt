@@ -22,7 +22,8 @@ mutual_cross s t = or_comm (pierces t s) (pierces s t)
 
 pub first_in_plane : (a b c : Point) → turn a b c a ≡ pos 0
 unfolding turn
-first_in_plane a b c = ap (λ (p : Point). determinant (seen_from a b) (seen_from a c) p) (seen_itself a) ∙ with_origin (seen_from a b) (seen_from a c)
+first_in_plane a b c = ap (λ (p : Point). determinant (seen_from a b) (seen_from a c) p) (seen_itself a)
+    ∙ with_origin (seen_from a b) (seen_from a c)
 
 pub second_in_plane : (a b c : Point) → turn a b c b ≡ pos 0
 unfolding turn
@@ -35,7 +36,8 @@ third_in_plane a b c = same_two (seen_from a b) (seen_from a c)
 none_pierced : (s : Corners) → pierces s s ≡ false
 unfolding pierces
 none_pierced s =
-    ap₂ ◌||◌ (ap₂ ◌||◌ (touches s.a s.b s (first_in_plane s.a s.b s.c)) (touches s.b s.c s (second_in_plane s.a s.b s.c))) (touches s.c s.a s (third_in_plane s.a s.b s.c))
+    ap₂ ◌||◌ (ap₂ ◌||◌ (touches s.a s.b s (first_in_plane s.a s.b s.c))
+    (touches s.b s.c s (second_in_plane s.a s.b s.c))) (touches s.c s.a s (third_in_plane s.a s.b s.c))
 
 pub not_itself : (s : Corners) → cross s s ≡ false
 unfolding cross

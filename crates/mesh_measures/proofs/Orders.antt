@@ -24,7 +24,8 @@ same_le a b e = omega (arith, ints)
 not_same : (a b : ℤ) → a <ℤ b → a ≡ b → ⊥
 not_same a b h e = omega (arith, ints)
 
-ordered : (z x z' x' : ℤ) (r q : Ordering) → MatchOrdering r (z' <ℤ z) (z' ≡ z) (z <ℤ z') → MatchOrdering q (x' <ℤ x) (x' ≡ x) (x <ℤ x') → is_lt (ordering_then r q) ≡ false → (z ≤ℤ z') × (z ≡ z' → x ≤ℤ x')
+ordered : (z x z' x' : ℤ) (r q : Ordering) → MatchOrdering r (z' <ℤ z) (z' ≡ z) (z <ℤ z')
+    → MatchOrdering q (x' <ℤ x) (x' ≡ x) (x <ℤ x') → is_lt (ordering_then r q) ≡ false → (z ≤ℤ z') × (z ≡ z' → x ≤ℤ x')
 ordered z x z' x' Less q h k e = absurd (let f : ⊥ = cc in f)
 ordered z x z' x' Equal Less h k e = absurd (let f : ⊥ = cc in f)
 ordered z x z' x' Equal Equal h k e = (same_le z z' h, λ _. same_le x x' k)
@@ -33,10 +34,14 @@ ordered z x z' x' Greater q h k e = (less_le z z' h, λ f. absurd (not_same z z'
 
 pub behind : (a b : Boxed) → is_lt (by_key (key b) (key a)) ≡ false → ComesAfter a b
 behind a b e =
-    let w = ordered a.least.z a.least.x b.least.z b.least.x (int_cmp b.least.z a.least.z) (int_cmp b.least.x a.least.x) (int_ranked b.least.z a.least.z (int_cmp b.least.z a.least.z) refl) (int_ranked b.least.x a.least.x (int_cmp b.least.x a.least.x) refl) e in
+    let w = ordered a.least.z a.least.x b.least.z b.least.x (int_cmp b.least.z a.least.z) (int_cmp b.least.x a.least.x)
+    (int_ranked b.least.z a.least.z (int_cmp b.least.z a.least.z) refl)
+    (int_ranked b.least.x a.least.x (int_cmp b.least.x a.least.x) refl) e in
     record { height = w.0; level = w.1 }
 
 pub swept_by_sort : (xs : List Boxed) → IsSortedByKey key by_key xs → IsSwept xs
 swept_by_sort xs up = λ i j d le below.
     behind (get_or xs i d) (get_or xs j d)
-    (sorted_far (λ (x y : Boxed). is_lt (by_key (key x) (key y))) (ranks_by (then_total (on_total (λ (p : ℤ × ℤ). p.0) int_cmp_total) (on_total (λ (p : ℤ × ℤ). p.1) int_cmp_total)) key) xs up i j d le below)
+    (sorted_far (λ (x y : Boxed). is_lt (by_key (key x) (key y)))
+    (ranks_by (then_total (on_total (λ (p : ℤ × ℤ). p.0) int_cmp_total)
+    (on_total (λ (p : ℤ × ℤ). p.1) int_cmp_total)) key) xs up i j d le below)

@@ -11,7 +11,8 @@ use Rattle.triangle_meshes.specs.Volumes.{seen_from, determinant}
 use Rattle.mesh_measures.proofs.Weights.{before, after, mean_x, flat_x}
 
 -- ---- a weighted mean of two numbers that is one of three numbers beyond them: all are the same
-pub sum_split : (l m n r s : ℕ) (u : ℤ) → r + s ≡ (l + m) + n → (pos r *ℤ u) +ℤ (pos s *ℤ u) ≡ ((pos l *ℤ u) +ℤ (pos m *ℤ u)) +ℤ (pos n *ℤ u)
+pub sum_split : (l m n r s : ℕ) (u : ℤ) → r + s ≡ (l + m) + n
+    → (pos r *ℤ u) +ℤ (pos s *ℤ u) ≡ ((pos l *ℤ u) +ℤ (pos m *ℤ u)) +ℤ (pos n *ℤ u)
 sum_split l m n r s u e =
     sym (add-mul (pos r) (pos s) u) ∙ ap (λ (k : ℕ). pos k *ℤ u) e
     ∙ add-mul (pos (l + m)) (pos n) u ∙ ap (λ (k : ℤ). k +ℤ (pos n *ℤ u)) (add-mul (pos l) (pos m) u)
@@ -34,7 +35,8 @@ not_more n a p h = cancel-le n a (pos 0) p (let k : (pos n *ℤ a) ≤ℤ (pos n
 sum_not_less : (t x y z : ℤ) → t ≡ (x +ℤ y) +ℤ z → pos 0 ≤ℤ x → pos 0 ≤ℤ y → pos 0 ≤ℤ z → pos 0 ≤ℤ t
 sum_not_less t x y z e f g h = omega (arith, ints)
 
-second_not_more : (t s x y z x' y' z' : ℤ) → t ≡ (x +ℤ y) +ℤ z → t +ℤ s ≡ (x' +ℤ y') +ℤ z' → x' ≤ℤ x → y' ≤ℤ y → z' ≤ℤ z → s ≤ℤ pos 0
+second_not_more : (t s x y z x' y' z' : ℤ) → t ≡ (x +ℤ y) +ℤ z → t +ℤ s ≡ (x' +ℤ y') +ℤ z' → x' ≤ℤ x → y' ≤ℤ y → z' ≤ℤ z
+    → s ≤ℤ pos 0
 second_not_more t s x y z x' y' z' e d f g h = omega (arith, ints)
 
 zero_between : (u : ℤ) → pos 0 ≤ℤ u → u ≤ℤ pos 0 → u ≡ pos 0
@@ -50,15 +52,24 @@ beyond l m n r s u a b c lp mp np rp sp sum mean a0 b0 c0 ua ub uc =
     let x = at_least l a a0 in
     let y = at_least m b b0 in
     let z = at_least n c c0 in
-    let up : pos 0 ≤ℤ u = not_less r u rp (sum_not_less (pos r *ℤ u) (pos l *ℤ a) (pos m *ℤ b) (pos n *ℤ c) mean x y z) in
-    let down : u ≤ℤ pos 0 = not_more s u sp (second_not_more (pos r *ℤ u) (pos s *ℤ u) (pos l *ℤ a) (pos m *ℤ b) (pos n *ℤ c) (pos l *ℤ u) (pos m *ℤ u) (pos n *ℤ u) mean (sum_split l m n r s u sum) (le-mul l u a ua) (le-mul m u b ub) (le-mul n u c uc)) in
+    let up : pos 0 ≤ℤ u = not_less r u rp (sum_not_less (pos r *ℤ u) (pos l *ℤ a) (pos m *ℤ b) (pos n *ℤ c) mean x y z)
+    in
+    let down : u ≤ℤ pos 0 = not_more s u sp
+    (second_not_more (pos r *ℤ u) (pos s *ℤ u) (pos l *ℤ a) (pos m *ℤ b) (pos n *ℤ c) (pos l *ℤ u) (pos m *ℤ u)
+    (pos n *ℤ u) mean (sum_split l m n r s u sum) (le-mul l u a ua) (le-mul m u b ub) (le-mul n u c uc)) in
     let none : u ≡ pos 0 = zero_between u up down in
-    let t : (pos r *ℤ u) ≤ℤ pos 0 = (let e : pos r *ℤ u ≡ pos r *ℤ pos 0 = ap (λ (k : ℤ). pos r *ℤ k) none in omega (arith, ints)) in
+    let t : (pos r *ℤ u) ≤ℤ pos 0 = (let e : pos r *ℤ u ≡ pos r *ℤ pos 0 = ap (λ (k : ℤ). pos r *ℤ k) none in
+    omega (arith, ints)) in
     record {
       of_u = none;
-      of_a = zero_between a a0 (not_more l a lp (first_not_more (pos r *ℤ u) (pos l *ℤ a) (pos m *ℤ b) (pos n *ℤ c) mean t y z));
-      of_b = zero_between b b0 (not_more m b mp (first_not_more (pos r *ℤ u) (pos m *ℤ b) (pos l *ℤ a) (pos n *ℤ c) (mean ∙ swapped (pos l *ℤ a) (pos m *ℤ b) (pos n *ℤ c)) t x z));
-      of_c = zero_between c c0 (not_more n c np (first_not_more (pos r *ℤ u) (pos n *ℤ c) (pos l *ℤ a) (pos m *ℤ b) (mean ∙ turned (pos l *ℤ a) (pos m *ℤ b) (pos n *ℤ c)) t x y));
+      of_a = zero_between a a0 (not_more l a lp
+          (first_not_more (pos r *ℤ u) (pos l *ℤ a) (pos m *ℤ b) (pos n *ℤ c) mean t y z));
+      of_b = zero_between b b0 (not_more m b mp
+          (first_not_more (pos r *ℤ u) (pos m *ℤ b) (pos l *ℤ a) (pos n *ℤ c)
+          (mean ∙ swapped (pos l *ℤ a) (pos m *ℤ b) (pos n *ℤ c)) t x z));
+      of_c = zero_between c c0 (not_more n c np
+          (first_not_more (pos r *ℤ u) (pos n *ℤ c) (pos l *ℤ a) (pos m *ℤ b)
+          (mean ∙ turned (pos l *ℤ a) (pos m *ℤ b) (pos n *ℤ c)) t x y));
     }
   where
     swapped : (x y z : ℤ) → (x +ℤ y) +ℤ z ≡ (y +ℤ x) +ℤ z
@@ -74,13 +85,17 @@ less_is a b e = grind (arith, ints)
 pub apart : (m n : ℤ) → are_opposite m n ≡ true → ((m <ℤ pos 0) × (pos 0 <ℤ n)) ⊎ ((pos 0 <ℤ m) × (n <ℤ pos 0))
 apart m n h =
     elim (or_cases (int_lt m (pos 0) && int_lt (pos 0) n) (int_lt (pos 0) m && int_lt n (pos 0)) h) [
-      | inl e ↦ (let w = and_parts (int_lt m (pos 0)) (int_lt (pos 0) n) e in inl (less_is m (pos 0) w.0, less_is (pos 0) n w.1))
-      | inr e ↦ (let w = and_parts (int_lt (pos 0) m) (int_lt n (pos 0)) e in inr (less_is (pos 0) m w.0, less_is n (pos 0) w.1))
+      | inl e ↦ (let w = and_parts (int_lt m (pos 0)) (int_lt (pos 0) n) e in
+          inl (less_is m (pos 0) w.0, less_is (pos 0) n w.1))
+      | inr e ↦ (let w = and_parts (int_lt (pos 0) m) (int_lt n (pos 0)) e in
+          inr (less_is (pos 0) m w.0, less_is n (pos 0) w.1))
     ]
 
-alike : (l m n : ℤ) → have_one_sign l m n ≡ true → ((pos 0 <ℤ l) × (pos 0 <ℤ m) × (pos 0 <ℤ n)) ⊎ ((l <ℤ pos 0) × (m <ℤ pos 0) × (n <ℤ pos 0))
+alike : (l m n : ℤ) → have_one_sign l m n ≡ true → ((pos 0 <ℤ l) × (pos 0 <ℤ m) × (pos 0 <ℤ n))
+    ⊎ ((l <ℤ pos 0) × (m <ℤ pos 0) × (n <ℤ pos 0))
 alike l m n h =
-    elim (or_cases (int_lt (pos 0) l && int_lt (pos 0) m && int_lt (pos 0) n) (int_lt l (pos 0) && int_lt m (pos 0) && int_lt n (pos 0)) h) [
+    elim (or_cases (int_lt (pos 0) l && int_lt (pos 0) m && int_lt (pos 0) n)
+    (int_lt l (pos 0) && int_lt m (pos 0) && int_lt n (pos 0)) h) [
       | inl e ↦
           (let v = and_parts (int_lt (pos 0) l && int_lt (pos 0) m) (int_lt (pos 0) n) e in
           let w = and_parts (int_lt (pos 0) l) (int_lt (pos 0) m) v.0 in
@@ -97,7 +112,8 @@ record Positive (z : ℤ) : Type 0 where
   is : z ≡ pos n
 
 positive : (z : ℤ) → pos 0 <ℤ z → Positive z
-positive z h = let w = natural z (let k : pos 0 ≤ℤ z = omega (arith, ints) in k) in record { n = w.0; some = (let e = w.1 in omega (arith, ints)); is = w.1 }
+positive z h = let w = natural z (let k : pos 0 ≤ℤ z = omega (arith, ints) in k) in
+    record { n = w.0; some = (let e = w.1 in omega (arith, ints)); is = w.1 }
 
 neg_positive : (z : ℤ) → z <ℤ pos 0 → Positive (neg_ℤ z)
 neg_positive z h = positive (neg_ℤ z) (let k : pos 0 <ℤ neg_ℤ z = omega (arith, ints) in k)
@@ -121,24 +137,30 @@ pub record Weights (D l m n : ℤ) : Type 0 where
   pub some_r : 0 < r
   pub some_s : 0 < s
   pub sum : r + s ≡ (i + j) + k
-  pub mean : (u a b c : ℤ) → D *ℤ u ≡ ((l *ℤ a) +ℤ (m *ℤ b)) +ℤ (n *ℤ c) → pos r *ℤ u ≡ ((pos i *ℤ a) +ℤ (pos j *ℤ b)) +ℤ (pos k *ℤ c)
+  pub mean : (u a b c : ℤ) → D *ℤ u ≡ ((l *ℤ a) +ℤ (m *ℤ b)) +ℤ (n *ℤ c)
+      → pos r *ℤ u ≡ ((pos i *ℤ a) +ℤ (pos j *ℤ b)) +ℤ (pos k *ℤ c)
 
-up_sum : (D l m n Q : ℤ) (r s i j k : ℕ) → Q ≡ ((n +ℤ l) +ℤ m) -ℤ D → D ≡ pos r → Q ≡ pos s → l ≡ pos i → m ≡ pos j → n ≡ pos k → r + s ≡ (i + j) + k
+up_sum : (D l m n Q : ℤ) (r s i j k : ℕ) → Q ≡ ((n +ℤ l) +ℤ m) -ℤ D → D ≡ pos r → Q ≡ pos s → l ≡ pos i → m ≡ pos j
+    → n ≡ pos k → r + s ≡ (i + j) + k
 up_sum D l m n Q r s i j k e f g h p q = omega (arith, ints)
 
-down_sum : (D l m n Q : ℤ) (r s i j k : ℕ) → Q ≡ ((n +ℤ l) +ℤ m) -ℤ D → neg_ℤ D ≡ pos r → neg_ℤ Q ≡ pos s → neg_ℤ l ≡ pos i → neg_ℤ m ≡ pos j → neg_ℤ n ≡ pos k → r + s ≡ (i + j) + k
+down_sum : (D l m n Q : ℤ) (r s i j k : ℕ) → Q ≡ ((n +ℤ l) +ℤ m) -ℤ D → neg_ℤ D ≡ pos r → neg_ℤ Q ≡ pos s
+    → neg_ℤ l ≡ pos i → neg_ℤ m ≡ pos j → neg_ℤ n ≡ pos k → r + s ≡ (i + j) + k
 down_sum D l m n Q r s i j k e f g h p q = omega (arith, ints)
 
-all_turned : (t x y z t' x' y' z' : ℤ) → t ≡ (x +ℤ y) +ℤ z → t' ≡ neg_ℤ t → x' ≡ neg_ℤ x → y' ≡ neg_ℤ y → z' ≡ neg_ℤ z → t' ≡ (x' +ℤ y') +ℤ z'
+all_turned : (t x y z t' x' y' z' : ℤ) → t ≡ (x +ℤ y) +ℤ z → t' ≡ neg_ℤ t → x' ≡ neg_ℤ x → y' ≡ neg_ℤ y → z' ≡ neg_ℤ z
+    → t' ≡ (x' +ℤ y') +ℤ z'
 all_turned t x y z t' x' y' z' e f g h k = omega (arith, ints)
 
 neg_weight : (d u : ℤ) (r : ℕ) → neg_ℤ d ≡ pos r → pos r *ℤ u ≡ neg_ℤ (d *ℤ u)
 neg_weight d u r e = ap (λ (k : ℤ). k *ℤ u) (sym e) ∙ neg-mul d u
 
-not_both : (D l m n Q : ℤ) → Q ≡ ((n +ℤ l) +ℤ m) -ℤ D → neg_ℤ D <ℤ pos 0 → pos 0 <ℤ Q → n <ℤ pos 0 → l <ℤ pos 0 → m <ℤ pos 0 → ⊥
+not_both : (D l m n Q : ℤ) → Q ≡ ((n +ℤ l) +ℤ m) -ℤ D → neg_ℤ D <ℤ pos 0 → pos 0 <ℤ Q → n <ℤ pos 0 → l <ℤ pos 0
+    → m <ℤ pos 0 → ⊥
 not_both D l m n Q e f g h k p = omega (arith, ints)
 
-nor_these : (D l m n Q : ℤ) → Q ≡ ((n +ℤ l) +ℤ m) -ℤ D → pos 0 <ℤ neg_ℤ D → Q <ℤ pos 0 → pos 0 <ℤ n → pos 0 <ℤ l → pos 0 <ℤ m → ⊥
+nor_these : (D l m n Q : ℤ) → Q ≡ ((n +ℤ l) +ℤ m) -ℤ D → pos 0 <ℤ neg_ℤ D → Q <ℤ pos 0 → pos 0 <ℤ n → pos 0 <ℤ l
+    → pos 0 <ℤ m → ⊥
 nor_these D l m n Q e f g h k p = omega (arith, ints)
 
 weights : (D l m n Q : ℤ) → Passed D l m n Q → Weights D l m n
@@ -164,7 +186,9 @@ weights D l m n Q p =
                   some_r = r.some;
                   some_s = s.some;
                   sum = up_sum D l m n Q r.n s.n i.n j.n k.n p.end r.is s.is i.is j.is k.is;
-                  mean = λ u a b c e. sym (ap (λ (x : ℤ). x *ℤ u) r.is) ∙ e ∙ ap₂ ◌+ℤ◌ (ap₂ ◌+ℤ◌ (ap (λ (x : ℤ). x *ℤ a) i.is) (ap (λ (x : ℤ). x *ℤ b) j.is)) (ap (λ (x : ℤ). x *ℤ c) k.is);
+                  mean = λ u a b c e. sym (ap (λ (x : ℤ). x *ℤ u) r.is) ∙ e
+                      ∙ ap₂ ◌+ℤ◌ (ap₂ ◌+ℤ◌ (ap (λ (x : ℤ). x *ℤ a) i.is) (ap (λ (x : ℤ). x *ℤ b) j.is))
+                      (ap (λ (x : ℤ). x *ℤ c) k.is);
                 })
             | inr f ↦ absurd (not_both D l m n Q p.end e.0 e.1 f.0 f.1 f.2)
           ]
@@ -189,7 +213,8 @@ weights D l m n Q p =
                   some_r = r.some;
                   some_s = s.some;
                   sum = down_sum D l m n Q r.n s.n i.n j.n k.n p.end r.is s.is i.is j.is k.is;
-                  mean = λ u a b c e. all_turned (D *ℤ u) (l *ℤ a) (m *ℤ b) (n *ℤ c) _ _ _ _ e (neg_weight D u r.n r.is) (neg_weight l a i.n i.is) (neg_weight m b j.n j.is) (neg_weight n c k.n k.is);
+                  mean = λ u a b c e. all_turned (D *ℤ u) (l *ℤ a) (m *ℤ b) (n *ℤ c) _ _ _ _ e (neg_weight D u r.n r.is)
+                      (neg_weight l a i.n i.is) (neg_weight m b j.n j.is) (neg_weight n c k.n k.is);
                 })
           ]
     ]
@@ -201,8 +226,10 @@ mul-neg a b = mul-comm a (neg_ℤ b) ∙ neg-mul b a ∙ ap neg_ℤ (mul-comm b 
 abbrev Meet : ℤ → ℤ → ℤ → ℤ → ℤ → ℤ → ℤ → ℤ → Type 0
 Meet D l m n u a b c = D *ℤ u ≡ ((l *ℤ a) +ℤ (m *ℤ b)) +ℤ (n *ℤ c)
 
-ahead : (D l m n u a b c : ℤ) → Weights D l m n → Meet D l m n u a b c → pos 0 ≤ℤ a → pos 0 ≤ℤ b → pos 0 ≤ℤ c → u ≤ℤ a → u ≤ℤ b → u ≤ℤ c → AllNone u a b c
-ahead D l m n u a b c w e = beyond w.i w.j w.k w.r w.s u a b c w.some_i w.some_j w.some_k w.some_r w.some_s w.sum (w.mean u a b c e)
+ahead : (D l m n u a b c : ℤ) → Weights D l m n → Meet D l m n u a b c → pos 0 ≤ℤ a → pos 0 ≤ℤ b → pos 0 ≤ℤ c → u ≤ℤ a
+    → u ≤ℤ b → u ≤ℤ c → AllNone u a b c
+ahead D l m n u a b c w e = beyond w.i w.j w.k w.r w.s u a b c w.some_i w.some_j w.some_k w.some_r w.some_s w.sum
+    (w.mean u a b c e)
 
 turned_back : (u : ℤ) → neg_ℤ u ≡ pos 0 → u ≡ pos 0
 turned_back u e = omega (arith, ints)
@@ -213,11 +240,21 @@ neg_none a h = omega (arith, ints)
 neg_less : (a u : ℤ) → a ≤ℤ u → neg_ℤ u ≤ℤ neg_ℤ a
 neg_less a u h = omega (arith, ints)
 
-behind : (D l m n u a b c : ℤ) → Weights D l m n → Meet D l m n u a b c → a ≤ℤ pos 0 → b ≤ℤ pos 0 → c ≤ℤ pos 0 → a ≤ℤ u → b ≤ℤ u → c ≤ℤ u → AllNone u a b c
+behind : (D l m n u a b c : ℤ) → Weights D l m n → Meet D l m n u a b c → a ≤ℤ pos 0 → b ≤ℤ pos 0 → c ≤ℤ pos 0 → a ≤ℤ u
+    → b ≤ℤ u → c ≤ℤ u → AllNone u a b c
 behind D l m n u a b c w e a0 b0 c0 ua ub uc =
-    let mean = all_turned (pos w.r *ℤ u) (pos w.i *ℤ a) (pos w.j *ℤ b) (pos w.k *ℤ c) _ _ _ _ (w.mean u a b c e) (mul-neg (pos w.r) u) (mul-neg (pos w.i) a) (mul-neg (pos w.j) b) (mul-neg (pos w.k) c) in
-    let all = beyond w.i w.j w.k w.r w.s (neg_ℤ u) (neg_ℤ a) (neg_ℤ b) (neg_ℤ c) w.some_i w.some_j w.some_k w.some_r w.some_s w.sum mean (neg_none a a0) (neg_none b b0) (neg_none c c0) (neg_less a u ua) (neg_less b u ub) (neg_less c u uc) in
-    record { of_u = turned_back u all.of_u; of_a = turned_back a all.of_a; of_b = turned_back b all.of_b; of_c = turned_back c all.of_c }
+    let mean = all_turned (pos w.r *ℤ u) (pos w.i *ℤ a) (pos w.j *ℤ b) (pos w.k *ℤ c) _ _ _ _ (w.mean u a b c e)
+    (mul-neg (pos w.r) u) (mul-neg (pos w.i) a) (mul-neg (pos w.j) b) (mul-neg (pos w.k) c) in
+    let all = beyond w.i w.j w.k w.r w.s (neg_ℤ u) (neg_ℤ a) (neg_ℤ b) (neg_ℤ c) w.some_i w.some_j w.some_k w.some_r
+    w.some_s w.sum mean (neg_none a a0) (neg_none b b0) (neg_none c c0) (neg_less a u ua) (neg_less b u ub)
+    (neg_less c u uc) in
+    record {
+      of_u = turned_back u all.of_u;
+      of_a = turned_back a all.of_a;
+      of_b = turned_back b all.of_b;
+      of_c =
+          turned_back c all.of_c;
+    }
 
 -- ---- edges and triangles on two sides of a plane across x
 pub from_true : (b : Bool) → (b ≡ true → ⊥) → b ≡ false
@@ -226,25 +263,37 @@ from_true false f = refl
 
 -- the weights of an edge that passes through a triangle
 abbrev pub WeightsOf : Point → Point → Corners → Type 0
-WeightsOf p q t = Weights (determinant (seen_from p t.a) (seen_from p t.b) (seen_from p t.c)) (turn p q t.b t.c) (turn p q t.c t.a) (turn p q t.a t.b)
+WeightsOf p q t = Weights (determinant (seen_from p t.a) (seen_from p t.b) (seen_from p t.c)) (turn p q t.b t.c)
+    (turn p q t.c t.a) (turn p q t.a t.b)
 
-pub ends_apart : (p q : Point) (t : Corners) → passes p q t ≡ true → are_opposite (turn t.a t.b t.c p) (turn t.a t.b t.c q) ≡ true
+pub ends_apart : (p q : Point) (t : Corners) → passes p q t ≡ true
+    → are_opposite (turn t.a t.b t.c p) (turn t.a t.b t.c q) ≡ true
 unfolding passes
-ends_apart p q t e = (and_parts (are_opposite (turn t.a t.b t.c p) (turn t.a t.b t.c q)) (have_one_sign (turn p q t.a t.b) (turn p q t.b t.c) (turn p q t.c t.a)) e).0
+ends_apart p q t e = (and_parts (are_opposite (turn t.a t.b t.c p) (turn t.a t.b t.c q))
+    (have_one_sign (turn p q t.a t.b) (turn p q t.b t.c) (turn p q t.c t.a)) e).0
 
 pub passed_weights : (p q : Point) (t : Corners) → passes p q t ≡ true → WeightsOf p q t
 unfolding passes
 passed_weights p q t e =
-    let w = and_parts (are_opposite (turn t.a t.b t.c p) (turn t.a t.b t.c q)) (have_one_sign (turn p q t.a t.b) (turn p q t.b t.c) (turn p q t.c t.a)) e in
-    weights (determinant (seen_from p t.a) (seen_from p t.b) (seen_from p t.c)) (turn p q t.b t.c) (turn p q t.c t.a) (turn p q t.a t.b) (turn t.a t.b t.c q)
-    (record { end = after p q t.a t.b t.c; ends_apart = sym (ap (λ (k : ℤ). are_opposite k (turn t.a t.b t.c q)) (before p t.a t.b t.c)) ∙ w.0; round = w.1 })
+    let w = and_parts (are_opposite (turn t.a t.b t.c p) (turn t.a t.b t.c q))
+    (have_one_sign (turn p q t.a t.b) (turn p q t.b t.c) (turn p q t.c t.a)) e in
+    weights (determinant (seen_from p t.a) (seen_from p t.b) (seen_from p t.c)) (turn p q t.b t.c) (turn p q t.c t.a)
+    (turn p q t.a t.b) (turn t.a t.b t.c q)
+    (record {
+      end = after p q t.a t.b t.c;
+      ends_apart =
+          sym (ap (λ (k : ℤ). are_opposite k (turn t.a t.b t.c q)) (before p t.a t.b t.c)) ∙ w.0;
+      round = w.1;
+    })
 
 -- an edge whose begin lies in the plane of the triangle does not pass through it
 pub touches : (p q : Point) (t : Corners) → turn t.a t.b t.c p ≡ pos 0 → passes p q t ≡ false
 unfolding passes
-touches p q t e = ap (λ (k : ℤ). are_opposite k (turn t.a t.b t.c q) && have_one_sign (turn p q t.a t.b) (turn p q t.b t.c) (turn p q t.c t.a)) e
+touches p q t e = ap (λ (k : ℤ). are_opposite k (turn t.a t.b t.c q) && have_one_sign (turn p q t.a t.b)
+    (turn p q t.b t.c) (turn p q t.c t.a)) e
 
-none_passed : (p q : Point) (t : Corners) → AllNone (q.x -ℤ p.x) (t.a.x -ℤ p.x) (t.b.x -ℤ p.x) (t.c.x -ℤ p.x) → passes p q t ≡ false
+none_passed : (p q : Point) (t : Corners) → AllNone (q.x -ℤ p.x) (t.a.x -ℤ p.x) (t.b.x -ℤ p.x) (t.c.x -ℤ p.x)
+    → passes p q t ≡ false
 none_passed p q t w = touches p q t (flat_x p t.a t.b t.c w.of_a w.of_b w.of_c)
 
 -- all corners are at most m, and at least m
@@ -270,14 +319,18 @@ under p a m h k = omega (arith, ints)
 passes_over : (p q : Point) (t : Corners) (m : ℤ) → p.x ≤ℤ m → q.x ≤ℤ m → Over t m → passes p q t ≡ false
 passes_over p q t m h k o =
     from_true (passes p q t) (λ e.
-    let all = ahead _ _ _ _ _ _ _ _ (passed_weights p q t e) (mean_x p q t.a t.b t.c) (over p.x t.a.x m h o.a) (over p.x t.b.x m h o.b) (over p.x t.c.x m h o.c) (over_both p.x q.x t.a.x m k o.a) (over_both p.x q.x t.b.x m k o.b) (over_both p.x q.x t.c.x m k o.c) in
+    let all = ahead _ _ _ _ _ _ _ _ (passed_weights p q t e) (mean_x p q t.a t.b t.c) (over p.x t.a.x m h o.a)
+    (over p.x t.b.x m h o.b) (over p.x t.c.x m h o.c) (over_both p.x q.x t.a.x m k o.a)
+    (over_both p.x q.x t.b.x m k o.b) (over_both p.x q.x t.c.x m k o.c) in
     let f : true ≡ false = sym e ∙ none_passed p q t all in
     absurd (let g : ⊥ = cc in g))
 
 passes_under : (p q : Point) (t : Corners) (m : ℤ) → m ≤ℤ p.x → m ≤ℤ q.x → Under t m → passes p q t ≡ false
 passes_under p q t m h k o =
     from_true (passes p q t) (λ e.
-    let all = behind _ _ _ _ _ _ _ _ (passed_weights p q t e) (mean_x p q t.a t.b t.c) (under p.x t.a.x m h o.a) (under p.x t.b.x m h o.b) (under p.x t.c.x m h o.c) (over_both p.x t.a.x q.x m o.a k) (over_both p.x t.b.x q.x m o.b k) (over_both p.x t.c.x q.x m o.c k) in
+    let all = behind _ _ _ _ _ _ _ _ (passed_weights p q t e) (mean_x p q t.a t.b t.c) (under p.x t.a.x m h o.a)
+    (under p.x t.b.x m h o.b) (under p.x t.c.x m h o.c) (over_both p.x t.a.x q.x m o.a k)
+    (over_both p.x t.b.x q.x m o.b k) (over_both p.x t.c.x q.x m o.c k) in
     let f : true ≡ false = sym e ∙ none_passed p q t all in
     absurd (let g : ⊥ = cc in g))
 
@@ -288,5 +341,7 @@ pub parted_x : (s t : Corners) (m : ℤ) → Under s m → Over t m → cross s 
 unfolding cross pierces
 parted_x s t m u o =
     ap₂ ◌||◌
-    (none_of (passes s.a s.b t) (passes s.b s.c t) (passes s.c s.a t) (passes_over s.a s.b t m u.a u.b o) (passes_over s.b s.c t m u.b u.c o) (passes_over s.c s.a t m u.c u.a o))
-    (none_of (passes t.a t.b s) (passes t.b t.c s) (passes t.c t.a s) (passes_under t.a t.b s m o.a o.b u) (passes_under t.b t.c s m o.b o.c u) (passes_under t.c t.a s m o.c o.a u))
+    (none_of (passes s.a s.b t) (passes s.b s.c t) (passes s.c s.a t) (passes_over s.a s.b t m u.a u.b o)
+    (passes_over s.b s.c t m u.b u.c o) (passes_over s.c s.a t m u.c u.a o))
+    (none_of (passes t.a t.b s) (passes t.b t.c s) (passes t.c t.a s) (passes_under t.a t.b s m o.a o.b u)
+    (passes_under t.b t.c s m o.b o.c u) (passes_under t.c t.a s m o.c o.a u))

@@ -21,28 +21,45 @@ good_left m n xs ys q l h =
     record {
       row = subst (λ (k : Mark). k.row < m) (sym here) h.row;
       col = subst (λ (k : Mark). k.col < n) (sym here) h.col;
-      new = λ r. h.new (record { earlier = r.earlier; before = r.before; shared = subst₂ ShareLine (mark_left xs ys r.earlier (omega (arith, r.before, l))) here r.shared });
+      new = λ r. h.new (record {
+        earlier = r.earlier;
+        before = r.before;
+        shared =
+            subst₂ ShareLine (mark_left xs ys r.earlier (omega (arith, r.before, l))) here r.shared;
+      });
       straight = λ r.
           h.straight (record {
             earlier = r.earlier;
             before = r.before;
-            across = subst (λ (o : Mark). Across m n o (mark_at xs r.earlier) (mark_at xs q)) (mark_left xs ys 0 (omega (arith, l)))
-                (subst₂ (Across m n (mark_at (xs ++ ys) 0)) (mark_left xs ys r.earlier (omega (arith, r.before, l))) here r.across);
+            across = subst (λ (o : Mark). Across m n o (mark_at xs r.earlier) (mark_at xs q))
+                (mark_left xs ys 0 (omega (arith, l)))
+                (subst₂ (Across m n (mark_at (xs ++ ys) 0)) (mark_left xs ys r.earlier (omega (arith, r.before, l)))
+                here r.across);
           });
     }
 
-pub good_pushed : (m n : ℕ) (xs new : List Mark) (x : Mark) → new ≡ xs ++ x ∷ [] → AreGoodBefore m n xs (length xs) → AreGoodBefore m n new (length new - 1)
+pub good_pushed : (m n : ℕ) (xs new : List Mark) (x : Mark) → new ≡ xs ++ x ∷ [] → AreGoodBefore m n xs (length xs)
+    → AreGoodBefore m n new (length new - 1)
 good_pushed m n xs new x e h =
     subst (λ (ms : List Mark). AreGoodBefore m n ms (length ms - 1)) (sym e)
-    (λ q l. let inside : q < length xs = omega (arith, l, length-append xs (x ∷ [])) in good_left m n xs (x ∷ []) q inside (h q inside))
+    (λ q l. let inside : q < length xs = omega (arith, l, length-append xs (x ∷ [])) in
+    good_left m n xs (x ∷ []) q inside (h q inside))
 
 pub good_none : (ps : List PairParts) → AreGoodMarks ps []
 good_none ps before x after e = absurd (omega (arith, ap length e, length-append before (x ∷ after)))
 
-pub good_more : (ps : List PairParts) (xs : List PairMark) (x : PairMark) → AreGoodMarks ps xs → IsGoodMark ps xs x → AreGoodMarks ps (xs ++ x ∷ [])
+pub good_more : (ps : List PairParts) (xs : List PairMark) (x : PairMark) → AreGoodMarks ps xs → IsGoodMark ps xs x
+    → AreGoodMarks ps (xs ++ x ∷ [])
 good_more ps xs x h g before y after e =
     elim (compare xs x [] before y after e) [
       | inl s ↦ subst₂ (IsGoodMark ps) s.0 s.1 g
-      | inr (inl s) ↦ absurd (omega (arith, ap length e, ap length s.split, length-append xs (x ∷ []), length-append before (y ∷ after), length-append xs (x ∷ s.more)))
+      | inr (inl s) ↦ absurd (omega (
+        arith,
+        ap length e,
+        ap length s.split,
+        length-append xs (x ∷ []),
+        length-append before (y ∷ after),
+        length-append xs (x ∷ s.more),
+      ))
       | inr (inr s) ↦ h before y s.more s.split
     ]

@@ -20,18 +20,22 @@ from_row x = number (pos x.mark.row) ∷ from_col x
 abbrev pub from_pair : PairMark → List Word
 from_pair x = number (pos x.pair) ∷ from_row x
 
-pub keyword_none : (ws : Line) (x : PairMark) → ((more : Line) → ws ≡ codes "MARK" ∷ more → ⊥) → Matches ws (mark_line x) → ⊥
+pub keyword_none : (ws : Line) (x : PairMark) → ((more : Line) → ws ≡ codes "MARK" ∷ more → ⊥)
+    → Matches ws (mark_line x) → ⊥
 keyword_none [] x none m = absurd m
 keyword_none (w ∷ ws) x none m = none ws (ap (λ (v : List ℕ). v ∷ ws) m.0)
 
-pub keyword_tail : (ws more : Line) (x : PairMark) → ws ≡ codes "MARK" ∷ more → Matches ws (mark_line x) → Matches more (from_pair x)
+pub keyword_tail : (ws more : Line) (x : PairMark) → ws ≡ codes "MARK" ∷ more → Matches ws (mark_line x)
+    → Matches more (from_pair x)
 keyword_tail ws more x e m = (subst (λ (v : Line). Matches v (mark_line x)) e m).1
 
-pub count_none : (ws : Line) (least n : ℕ) (ps : List Word) → HasNoCount ws least → least ≤ n → n < 2 ^ 32 → Matches ws (number (pos n) ∷ ps) → ⊥
+pub count_none : (ws : Line) (least n : ℕ) (ps : List Word) → HasNoCount ws least → least ≤ n → n < 2 ^ 32
+    → Matches ws (number (pos n) ∷ ps) → ⊥
 count_none [] least n ps none l u m = absurd m
 count_none (w ∷ ws) least n ps none l u m = none n ws (record { word = w; words = refl; says = (m.0, l, u) })
 
-pub count_tail : (ws more : Line) (least n : ℕ) (z : ℤ) (ps : List Word) → IsFirstCount ws least n more → Matches ws (number z ∷ ps) → Matches more ps
+pub count_tail : (ws more : Line) (least n : ℕ) (z : ℤ) (ps : List Word) → IsFirstCount ws least n more
+    → Matches ws (number z ∷ ps) → Matches more ps
 count_tail ws more least n z ps f m = (subst (λ (v : Line). Matches v (number z ∷ ps)) f.words m).1
 
 -- a line has at most as many words as bytes
@@ -39,7 +43,8 @@ onto_few : (b : ℕ) (parts : List (List ℕ)) → length (onto_first b parts) �
 onto_few b [] = omega arith
 onto_few b (p ∷ ps) = omega arith
 
-word_few : (blank ends : Bool) (b : ℕ) (bs : List ℕ) → length (words bs) ≤ length bs → length (cond blank (words bs) (cond ends ((b ∷ []) ∷ words bs) (onto_first b (words bs)))) ≤ 1 + length bs
+word_few : (blank ends : Bool) (b : ℕ) (bs : List ℕ) → length (words bs) ≤ length bs
+    → length (cond blank (words bs) (cond ends ((b ∷ []) ∷ words bs) (onto_first b (words bs)))) ≤ 1 + length bs
 word_few true ends b bs h = omega (arith, h)
 word_few false true b bs h = omega (arith, h)
 word_few false false b bs h = omega (arith, h, onto_few b (words bs))
@@ -57,13 +62,15 @@ four (a ∷ b ∷ c ∷ d ∷ []) x m = refl
 four (a ∷ b ∷ c ∷ d ∷ e ∷ ws) x m = absurd m.1.1.1.1
 
 -- so the line of a mark has at least four bytes
-pub long_line : (bytes : List ℕ) (first end : ℕ) (x : PairMark) → SaysMark (words (slice_range bytes first end)) x → first + 4 ≤ end
+pub long_line : (bytes : List ℕ) (first end : ℕ) (x : PairMark) → SaysMark (words (slice_range bytes first end)) x
+    → first + 4 ≤ end
 long_line bytes first end x s =
     let line = slice_range bytes first end in
     omega (arith, four (words line) x s.match, words_few line, length-take (end - first) (drop first bytes))
 
 -- lists that are related one by one
-pub zip_join : {A B : Type 0} (R : A → B → Type 0) (xs us : List A) (ys vs : List B) → AllZip R xs ys → AllZip R us vs → AllZip R (xs ++ us) (ys ++ vs)
+pub zip_join : {A B : Type 0} (R : A → B → Type 0) (xs us : List A) (ys vs : List B) → AllZip R xs ys → AllZip R us vs
+    → AllZip R (xs ++ us) (ys ++ vs)
 zip_join R [] us [] vs h k = k
 zip_join R [] us (y ∷ ys) vs h k = absurd h
 zip_join R (x ∷ xs) us [] vs h k = absurd h
@@ -78,29 +85,35 @@ lines_are (k ∷ tail) (x ∷ marks) h = ((x, h.0), lines_are tail marks h.1)
 pub all_lines : (tail : List Kept) (marks : List PairMark) → AreMarks tail marks → All IsMarkLine tail
 all_lines tail marks h = All-from_recursion IsMarkLine tail (lines_are tail marks h)
 
-numbers_are : (tail : List Kept) (marks : List PairMark) → AreMarks tail marks → AllByRecursion (λ (x : PairMark). 1 ≤ x.pair) marks
+numbers_are : (tail : List Kept) (marks : List PairMark) → AreMarks tail marks
+    → AllByRecursion (λ (x : PairMark). 1 ≤ x.pair) marks
 numbers_are [] [] h = tt
 numbers_are [] (x ∷ marks) h = absurd h
 numbers_are (k ∷ tail) [] h = absurd h
 numbers_are (k ∷ tail) (x ∷ marks) h = (h.0.pair.0, numbers_are tail marks h.1)
 
-pub all_numbers : (tail : List Kept) (marks : List PairMark) → AreMarks tail marks → All (λ (x : PairMark). 1 ≤ x.pair) marks
+pub all_numbers : (tail : List Kept) (marks : List PairMark) → AreMarks tail marks
+    → All (λ (x : PairMark). 1 ≤ x.pair) marks
 all_numbers tail marks h = All-from_recursion (λ (x : PairMark). 1 ≤ x.pair) marks (numbers_are tail marks h)
 
 -- the reader of lines: at its start, one line further, at a line that says no mark, and at the end
 pub marks_none : (tail : List Kept) → MarksSoFar tail [] tail
 marks_none tail = record { done = []; split = refl; are = tt }
 
-pub marks_more : (tail rest left : List Kept) (marks new : List PairMark) (n : ℕ) (ws : Line) (x : PairMark) → MarksSoFar tail marks rest → rest ≡ (n, ws) ∷ left → SaysMark ws x → new ≡ marks ++ x ∷ [] → MarksSoFar tail new left
+pub marks_more : (tail rest left : List Kept) (marks new : List PairMark) (n : ℕ) (ws : Line) (x : PairMark)
+    → MarksSoFar tail marks rest → rest ≡ (n, ws) ∷ left → SaysMark ws x → new ≡ marks ++ x ∷ []
+    → MarksSoFar tail new left
 marks_more tail rest left marks new n ws x h e s more =
     let line : Kept = (n, ws) in
     record {
       done = h.done ++ line ∷ [];
       split = h.split ∙ ap (λ (k : List Kept). h.done ++ k) e ∙ sym (append_assoc h.done (line ∷ []) left);
-      are = subst (AreMarks (h.done ++ line ∷ [])) (sym more) (zip_join (λ (k : Kept) (y : PairMark). SaysMark k.1 y) h.done (line ∷ []) marks (x ∷ []) h.are (s, tt));
+      are = subst (AreMarks (h.done ++ line ∷ [])) (sym more)
+          (zip_join (λ (k : Kept) (y : PairMark). SaysMark k.1 y) h.done (line ∷ []) marks (x ∷ []) h.are (s, tt));
     }
 
-pub marks_fault : (tail rest left : List Kept) (marks : List PairMark) (n : ℕ) (ws : Line) → MarksSoFar tail marks rest → rest ≡ (n, ws) ∷ left → ((x : PairMark) → SaysMark ws x → ⊥) → IsFormFault tail (MarkForm n)
+pub marks_fault : (tail rest left : List Kept) (marks : List PairMark) (n : ℕ) (ws : Line) → MarksSoFar tail marks rest
+    → rest ≡ (n, ws) ∷ left → ((x : PairMark) → SaysMark ws x → ⊥) → IsFormFault tail (MarkForm n)
 marks_fault tail rest left marks n ws h e none = record {
   before = h.done;
   item = (n, ws);
@@ -110,5 +123,7 @@ marks_fault tail rest left marks n ws h e none = record {
   has = (none, refl);
 }
 
-pub marks_end : (tail rest : List Kept) (marks : List PairMark) → MarksSoFar tail marks rest → rest ≡ [] → AreMarks tail marks
-marks_end tail rest marks h e = subst (λ (k : List Kept). AreMarks k marks) (sym (h.split ∙ ap (λ (k : List Kept). h.done ++ k) e ∙ append-nil h.done)) h.are
+pub marks_end : (tail rest : List Kept) (marks : List PairMark) → MarksSoFar tail marks rest → rest ≡ []
+    → AreMarks tail marks
+marks_end tail rest marks h e = subst (λ (k : List Kept). AreMarks k marks)
+    (sym (h.split ∙ ap (λ (k : List Kept). h.done ++ k) e ∙ append-nil h.done)) h.are

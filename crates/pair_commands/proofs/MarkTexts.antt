@@ -19,9 +19,12 @@ use Rattle.command_replies.proofs.ReplyLemmas.{went_on}
 -- a pair without marks, and one with marks
 pub no_lines : (k : ℕ) (s : Strip) (marks : List Mark) (old : List ℕ) → marks ≡ [] → IsPairText k s marks old old 0
 no_lines k s marks old e =
-    subst (λ (ms : List Mark). IsPairText k s ms old old 0) (sym e) (record { solved = []; each = tt; put = sym (append-nil old); counted = refl; one = omega arith })
+    subst (λ (ms : List Mark). IsPairText k s ms old old 0) (sym e)
+    (record { solved = []; each = tt; put = sym (append-nil old); counted = refl; one = omega arith })
 
-pub some_lines : (k : ℕ) (s : Strip) (marks : List Mark) (old new : List ℕ) (t : Marked) → 0 < length marks → AreSoundMarks (rows s) (cols s) marks → SolvesMarked s marks t → new ≡ old ++ marked_of k (length marks) t → IsPairText k s marks old new 1
+pub some_lines : (k : ℕ) (s : Strip) (marks : List Mark) (old new : List ℕ) (t : Marked) → 0 < length marks
+    → AreSoundMarks (rows s) (cols s) marks → SolvesMarked s marks t → new ≡ old ++ marked_of k (length marks) t
+    → IsPairText k s marks old new 1
 some_lines k s [] old new t l g h e = absurd (omega (arith, l))
 some_lines k s (x ∷ xs) old new t l g h e = record {
   solved = t ∷ [];
@@ -32,23 +35,29 @@ some_lines k s (x ∷ xs) old new t l g h e = record {
 }
 
 -- the pairs from a number on, with one more
-marked_more : (k : ℕ) (ps : List PairParts) (p : PairParts) (marks : List PairMark) → marked_from k (ps ++ p ∷ []) marks ≡ marked_from k ps marks ++ if_marked (k + length ps) p.strip (marks_of (k + length ps) marks)
+marked_more : (k : ℕ) (ps : List PairParts) (p : PairParts) (marks : List PairMark)
+    → marked_from k (ps ++ p ∷ []) marks ≡ marked_from k ps marks
+    ++ if_marked (k + length ps) p.strip (marks_of (k + length ps) marks)
 marked_more k [] p marks =
-    let e : k ≡ k + 0 = omega arith in append-nil (if_marked k p.strip (marks_of k marks)) ∙ ap (λ (n : ℕ). if_marked n p.strip (marks_of n marks)) e
+    let e : k ≡ k + 0 = omega arith in append-nil (if_marked k p.strip (marks_of k marks))
+    ∙ ap (λ (n : ℕ). if_marked n p.strip (marks_of n marks)) e
 marked_more k (q ∷ ps) p marks =
     let e : k + 1 + length ps ≡ k + length (q ∷ ps) = omega arith in
     let here = if_marked k q.strip (marks_of k marks) in
     let later = marked_from (k + 1) ps marks in
-    ap (λ (ts : List MarkedPair). here ++ ts) (marked_more (k + 1) ps p marks ∙ ap (λ (n : ℕ). later ++ if_marked n p.strip (marks_of n marks)) e)
+    ap (λ (ts : List MarkedPair). here ++ ts)
+    (marked_more (k + 1) ps p marks ∙ ap (λ (n : ℕ). later ++ if_marked n p.strip (marks_of n marks)) e)
     ∙ sym (append_assoc here later (if_marked (k + length (q ∷ ps)) p.strip (marks_of (k + length (q ∷ ps)) marks)))
 
-all_text-join : (ts us : List MarkedPair) (ms ns : List Marked) → AllZip SolvesPair ts ms → all_text (ts ++ us) (ms ++ ns) ≡ all_text ts ms ++ all_text us ns
+all_text-join : (ts us : List MarkedPair) (ms ns : List Marked) → AllZip SolvesPair ts ms
+    → all_text (ts ++ us) (ms ++ ns) ≡ all_text ts ms ++ all_text us ns
 all_text-join [] us [] ns h = refl
 all_text-join [] us (m ∷ ms) ns h = absurd h
 all_text-join (t ∷ ts) us [] ns h = absurd h
 all_text-join (t ∷ ts) us (m ∷ ms) ns h =
     let here = marked_of t.number (length t.marks) m in
-    ap (λ (w : List ℕ). here ++ w) (all_text-join ts us ms ns h.1) ∙ sym (append_assoc here (all_text ts ms) (all_text us ns))
+    ap (λ (w : List ℕ). here ++ w) (all_text-join ts us ms ns h.1)
+    ∙ sym (append_assoc here (all_text ts ms) (all_text us ns))
 
 -- the text of the first pairs
 pub record TextSoFar (ps : List PairParts) (marks : List PairMark) (i : ℕ) (text : List ℕ) (count : ℕ) : Type 0 where
@@ -57,8 +66,10 @@ pub record TextSoFar (ps : List PairParts) (marks : List PairMark) (i : ℕ) (te
   pub is : text ≡ all_text (marked_from 1 (take i ps) marks) solved
   pub counted : count ≡ length (marked_from 1 (take i ps) marks)
 
-pub text_more : (ps : List PairParts) (marks : List PairMark) (i : ℕ) (p : PairParts) (group : List Mark) (text new : List ℕ) (count n : ℕ) → i < length ps → p ≡ get_or ps i p → group ≡ marks_of (i + 1) marks
-    → TextSoFar ps marks i text count → IsPairText (i + 1) p.strip group text new n → TextSoFar ps marks (i + 1) new (count + n)
+pub text_more : (ps : List PairParts) (marks : List PairMark) (i : ℕ) (p : PairParts) (group : List Mark)
+    (text new : List ℕ) (count n : ℕ) → i < length ps → p ≡ get_or ps i p → group ≡ marks_of (i + 1) marks
+    → TextSoFar ps marks i text count → IsPairText (i + 1) p.strip group text new n
+    → TextSoFar ps marks (i + 1) new (count + n)
 text_more ps marks i p group text new count n l e g h k =
     let front = take i ps in
     let before = marked_from 1 front marks in
@@ -71,13 +82,18 @@ text_more ps marks i p group text new count n l e g h k =
     ∙ ap (λ (ms : List Mark). before ++ if_marked (i + 1) p.strip ms) (sym g) in
     record {
       solved = h.solved ++ k.solved;
-      each = subst (λ (ts : List MarkedPair). AllZip SolvesPair ts (h.solved ++ k.solved)) (sym grown) (zip_join SolvesPair before here h.solved k.solved h.each k.each);
-      is = k.put ∙ ap (λ (w : List ℕ). w ++ all_text here k.solved) h.is ∙ sym (all_text-join before here h.solved k.solved h.each) ∙ ap (λ (ts : List MarkedPair). all_text ts (h.solved ++ k.solved)) (sym grown);
+      each = subst (λ (ts : List MarkedPair). AllZip SolvesPair ts (h.solved ++ k.solved)) (sym grown)
+          (zip_join SolvesPair before here h.solved k.solved h.each k.each);
+      is = k.put ∙ ap (λ (w : List ℕ). w ++ all_text here k.solved) h.is
+          ∙ sym (all_text-join before here h.solved k.solved h.each)
+          ∙ ap (λ (ts : List MarkedPair). all_text ts (h.solved ++ k.solved)) (sym grown);
       counted = ap₂ (λ (a b : ℕ). a + b) h.counted k.counted ∙ sym (length-append before here) ∙ ap length (sym grown);
     }
 
 -- a text that solves the marks is the reply, with a count of 0 pairs
-pub text_told : (ps : List PairParts) (marks : List PairMark) (count : ℕ) (v : Vec ℕ Global) → IsLandmarksText ps marks v.items → Replies (on_marks ps marks) count count (Ok v)
+pub text_told : (ps : List PairParts) (marks : List PairMark) (count : ℕ) (v : Vec ℕ Global)
+    → IsLandmarksText ps marks v.items → Replies (on_marks ps marks) count count (Ok v)
 text_told ps marks count v h =
-    went_on (IsMarkFault ps marks) (AreSolved ps marks) (λ ms. Tells (landmarks_text (marked_from 1 ps marks) ms) 0) count count (Ok v) h.solved h.are
+    went_on (IsMarkFault ps marks) (AreSolved ps marks) (λ ms. Tells (landmarks_text (marked_from 1 ps marks) ms) 0)
+    count count (Ok v) h.solved h.are
     (record { text = (0, ap (λ (t : List ℕ). told t 0) h.is, refl); fault = tt; later = omega arith })

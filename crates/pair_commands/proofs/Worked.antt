@@ -24,11 +24,26 @@ abbrev square_at : ℕ → List Point
 square_at z = corner 0 0 z ∷ corner 10 0 z ∷ corner 10 10 z ∷ corner 0 10 z ∷ []
 
 abbrev section : List ℕ → ℕ → SectionParts
-section name z = record { z = pos z; contours = record { name = name; count = pos 4; points = (pos 0, pos 0) ∷ (pos 10, pos 0) ∷ (pos 10, pos 10) ∷ (pos 0, pos 10) ∷ [] } ∷ [] }
+section name z = record {
+  z = pos z;
+  contours =
+      record {
+        name = name;
+        count = pos 4;
+        points =
+            (pos 0, pos 0) ∷ (pos 10, pos 0) ∷ (pos 10, pos 10) ∷ (pos 0, pos 10) ∷ [];
+      } ∷ [];
+}
 
 abbrev pair : PairParts
 pair = record {
-  strip = record { low = square_at 0; low_ids = 0 ∷ 1 ∷ 2 ∷ 3 ∷ []; high = square_at 10; high_ids = 4 ∷ 5 ∷ 6 ∷ 7 ∷ []; cost = Span };
+  strip = record {
+    low = square_at 0;
+    low_ids = 0 ∷ 1 ∷ 2 ∷ 3 ∷ [];
+    high = square_at 10;
+    high_ids = 4 ∷ 5 ∷ 6 ∷ 7 ∷ [];
+    cost = Span;
+  };
   gap = 0;
   below = 0 ∷ [];
   above = 0 ∷ [];
@@ -42,14 +57,17 @@ squares version = record {
   version = version;
   cost = span;
   rule = Overlap;
-  objects = record { name = codes "p"; sections = section (codes "a") 0 ∷ section (codes "b") 10 ∷ []; links = [] } ∷ [];
+  objects = record { name = codes "p"; sections = section (codes "a") 0 ∷ section (codes "b") 10 ∷ []; links = [] }
+      ∷ [];
 }
 
-tilings_of_two_squares : tilings_text (squares One) ((pair ∷ []) ∷ []) (solution ∷ []) ≡ codes "PAIR 1 GAP 1\nBELOW a\nABOVE b\nROWS 4 COLS 4 COST 1200 START 0\nWORD VHVHVHVH\nPAIRS 1\n"
+tilings_of_two_squares : tilings_text (squares One) ((pair ∷ []) ∷ []) (solution ∷ [])
+    ≡ codes "PAIR 1 GAP 1\nBELOW a\nABOVE b\nROWS 4 COLS 4 COST 1200 START 0\nWORD VHVHVHVH\nPAIRS 1\n"
 unfolding digits
 tilings_of_two_squares = refl
 
-tilings_of_a_named_object : tilings_text (squares Two) ((pair ∷ []) ∷ []) (solution ∷ []) ≡ codes "OBJECT p\nPAIR 1 GAP 1\nBELOW a\nABOVE b\nROWS 4 COLS 4 COST 1200 START 0\nWORD VHVHVHVH\nPAIRS 1\n"
+tilings_of_a_named_object : tilings_text (squares Two) ((pair ∷ []) ∷ []) (solution ∷ [])
+    ≡ codes "OBJECT p\nPAIR 1 GAP 1\nBELOW a\nABOVE b\nROWS 4 COLS 4 COST 1200 START 0\nWORD VHVHVHVH\nPAIRS 1\n"
 unfolding digits
 tilings_of_a_named_object = refl
 
@@ -62,7 +80,8 @@ certificate_of_two_squares :
     ∷ pos 800 ∷ pos 900 ∷ pos 1100 ∷ pos 1400 ∷ pos 1400
     ∷ pos 1100 ∷ pos 1100 ∷ pos 1200 ∷ pos 1400 ∷ pos 1700
     ∷ pos 1300 ∷ pos 1400 ∷ pos 1400 ∷ pos 1500 ∷ pos 1700 ∷ []))
-    ≡ codes "CERT 1 PAIR 1 ROWS 4 COLS 4 COST 1200 START 0\nWORD VHVHVHVH\n0 200 500 700 800\n200 300 500 800 1000\n300 500 600 800 1100\n500 800 800 900 1100\n600 800 1100 1100 1200\n800 900 1100 1400 1400\n1100 1100 1200 1400 1700\n1300 1400 1400 1500 1700\nEND\n"
+    ≡ codes
+    "CERT 1 PAIR 1 ROWS 4 COLS 4 COST 1200 START 0\nWORD VHVHVHVH\n0 200 500 700 800\n200 300 500 800 1000\n300 500 600 800 1100\n500 800 800 900 1100\n600 800 1100 1100 1200\n800 900 1100 1400 1400\n1100 1100 1200 1400 1700\n1300 1400 1400 1500 1700\nEND\n"
 unfolding digits
 certificate_of_two_squares = refl
 

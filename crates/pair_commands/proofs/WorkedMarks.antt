@@ -21,13 +21,27 @@ mark k r c = record { pair = k; mark = span r c }
 
 -- a line that says a mark, with any blanks and zeros; and one with a word too few
 read : SaysMark (words (codes "  MARK 01 -0  002")) (mark 1 0 2)
-read = record { match = (refl, (refl, (refl, (refl, tt)))); pair = (omega arith, omega arith); row = omega arith; col = omega arith }
+read = record {
+  match = (refl, (refl, (refl, (refl, tt))));
+  pair = (omega arith, omega arith);
+  row = omega arith;
+  col =
+      omega arith;
+}
 
 too_few : (x : PairMark) → SaysMark (words (codes "MARK 1 0")) x → ⊥
 too_few x s = s.match.1.1.1
 
 refused_line : IsFormFault ((17, words (codes "MARK 1 0")) ∷ []) (MarkForm 17)
-refused_line = record { before = []; item = (17, words (codes "MARK 1 0")); after = []; split = refl; good_before = All-nil IsMarkLine; has = (too_few, refl) }
+refused_line = record {
+  before = [];
+  item = (17, words (codes "MARK 1 0"));
+  after = [];
+  split = refl;
+  good_before =
+      All-nil IsMarkLine;
+  has = (too_few, refl);
+}
 
 -- marks of two pairs, given alternately
 alternately : marks_of 2 (mark 2 2 2 ∷ mark 1 0 2 ∷ mark 2 0 0 ∷ []) ≡ span 2 2 ∷ span 0 0 ∷ []
@@ -35,10 +49,16 @@ alternately = refl
 
 -- a pair of two squares
 abbrev square : List Point
-square = record { x = pos 0; y = pos 0; z = pos 0 } ∷ record { x = pos 10; y = pos 0; z = pos 0 } ∷ record { x = pos 10; y = pos 10; z = pos 0 } ∷ record { x = pos 0; y = pos 10; z = pos 0 } ∷ []
+square = record { x = pos 0; y = pos 0; z = pos 0 } ∷ record { x = pos 10; y = pos 0; z = pos 0 }
+    ∷ record { x = pos 10; y = pos 10; z = pos 0 } ∷ record { x = pos 0; y = pos 10; z = pos 0 } ∷ []
 
 abbrev squares : PairParts
-squares = record { strip = record { low = square; low_ids = []; high = square; high_ids = []; cost = Span }; gap = 0; below = 0 ∷ []; above = 0 ∷ [] }
+squares = record {
+  strip = record { low = square; low_ids = []; high = square; high_ids = []; cost = Span };
+  gap = 0;
+  below = 0 ∷ [];
+  above = 0 ∷ [];
+}
 
 no_second : HasMarkFault (squares ∷ []) [] (mark 2 0 0) (NoPair 2)
 no_second = no_pair (omega arith)
@@ -49,7 +69,14 @@ no_column =
     (record { there = omega arith; earlier = λ q l. absurd (omega (arith, l)) }, inr (omega arith)) refl
 
 -- the texts of a piece, of a pair's first line, and of an input without marks
-piece : piece_text (record { from = span 3 3; rows = 1; cols = 1; cost = pos 300; values = pos 0 ∷ pos 200 ∷ pos 200 ∷ pos 300 ∷ [] }) ≡ codes "PIECE 3 3 ROWS 1 COLS 1 COST 300\n0 200\n200 300\n"
+piece : piece_text (record {
+  from = span 3 3;
+  rows = 1;
+  cols = 1;
+  cost = pos 300;
+  values =
+      pos 0 ∷ pos 200 ∷ pos 200 ∷ pos 300 ∷ [];
+}) ≡ codes "PIECE 3 3 ROWS 1 COLS 1 COST 300\n0 200\n200 300\n"
 unfolding digits
 piece = refl
 

@@ -17,23 +17,32 @@ no_solution : Solution
 no_solution = record { row = 0; word = []; cost = pos 0 }
 
 -- strips have only one list of solutions, since each strip has one
-pub one_solutions : (strips : List Strip) (xs ys : List Solution) → SolvesEach strips xs → SolvesEach strips ys → xs ≡ ys
-one_solutions strips xs ys a b = ext_get_or no_solution xs ys (a.count ∙ sym b.count) (λ k l. at k (omega (arith, l, a.count)))
+pub one_solutions : (strips : List Strip) (xs ys : List Solution) → SolvesEach strips xs → SolvesEach strips ys
+    → xs ≡ ys
+one_solutions strips xs ys a b = ext_get_or no_solution xs ys (a.count ∙ sym b.count)
+    (λ k l. at k (omega (arith, l, a.count)))
   where
     at : (k : ℕ) → k < length strips → get_or xs k no_solution ≡ get_or ys k no_solution
-    at k l = solves_unique (get_or strips k no_strip) (get_or xs k no_solution) (get_or ys k no_solution) (a.each k no_strip no_solution l) (b.each k no_strip no_solution l)
+    at k l = solves_unique (get_or strips k no_strip) (get_or xs k no_solution) (get_or ys k no_solution)
+        (a.each k no_strip no_solution l) (b.each k no_strip no_solution l)
 
 -- the same for equal strips
-pub same_solutions : (ps qs : List Strip) (xs ys : List Solution) → ps ≡ qs → SolvesEach ps xs → SolvesEach qs ys → xs ≡ ys
-same_solutions ps qs xs ys e a b = one_solutions ps xs ys a (subst (λ (strips : List Strip). SolvesEach strips ys) (sym e) b)
+pub same_solutions : (ps qs : List Strip) (xs ys : List Solution) → ps ≡ qs → SolvesEach ps xs → SolvesEach qs ys
+    → xs ≡ ys
+same_solutions ps qs xs ys e a b =
+    one_solutions ps xs ys a (subst (λ (strips : List Strip). SolvesEach strips ys) (sym e) b)
 
 -- what solutions cost together, if each costs little
-sum_below : (xs : List Solution) → ((k : ℕ) → k < length xs → unsigned_abs (get_or xs k no_solution).cost ≤ MAX_STEPS * step_cost_limit) → unsigned_abs (signed_sum (λ (x : Solution). x.cost) xs) ≤ length xs * (MAX_STEPS * step_cost_limit)
+sum_below : (xs : List Solution) → ((k : ℕ) → k < length xs
+    → unsigned_abs (get_or xs k no_solution).cost ≤ MAX_STEPS * step_cost_limit)
+    → unsigned_abs (signed_sum (λ (x : Solution). x.cost) xs) ≤ length xs * (MAX_STEPS * step_cost_limit)
 sum_below [] h = omega (arith, ints)
 sum_below (x ∷ xs) h = omega (arith, ints, h 0 (omega arith), sum_below xs (λ k l. h (suc k) (omega (arith, l))))
 
-pub few_cost_little : (strips : List Strip) (xs : List Solution) → All IsStrip strips → SolvesEach strips xs → length strips ≤ MAX_PAIRS → unsigned_abs (signed_sum (λ (x : Solution). x.cost) xs) < 2 ^ 127
+pub few_cost_little : (strips : List Strip) (xs : List Solution) → All IsStrip strips → SolvesEach strips xs
+    → length strips ≤ MAX_PAIRS → unsigned_abs (signed_sum (λ (x : Solution). x.cost) xs) < 2 ^ 127
 few_cost_little strips xs are a few = omega (arith, a.count, sum_below xs (λ k l. at k (omega (arith, l, a.count))))
   where
     at : (k : ℕ) → k < length strips → unsigned_abs (get_or xs k no_solution).cost ≤ MAX_STEPS * step_cost_limit
-    at k l = cost_limited (get_or strips k no_strip) (get_or xs k no_solution) (are k no_strip l) (a.each k no_strip no_solution l)
+    at k l = cost_limited (get_or strips k no_strip) (get_or xs k no_solution) (are k no_strip l)
+        (a.each k no_strip no_solution l)

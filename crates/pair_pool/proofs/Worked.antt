@@ -11,7 +11,8 @@ use Rattle.pair_pool.specs.Solvers.{raised_by, SolvesEach}
 use Rattle.pair_pool.specs.Batches.{IsMadeAt, AreSlots, AreMade}
 
 -- a count rises by the number of pairs, up to the last value of its counter
-counts : (raised_by 2 5 ≡ 7) × (raised_by 0 5 ≡ 5) × (raised_by 1 (2 ^ 64 - 2) ≡ 2 ^ 64 - 1) × (raised_by 3 (2 ^ 64 - 2) ≡ 2 ^ 64 - 1)
+counts : (raised_by 2 5 ≡ 7) × (raised_by 0 5 ≡ 5) × (raised_by 1 (2 ^ 64 - 2) ≡ 2 ^ 64 - 1)
+    × (raised_by 3 (2 ^ 64 - 2) ≡ 2 ^ 64 - 1)
 counts = (refl, refl, refl, refl)
 
 abbrev two_pairs : List Strip
@@ -21,7 +22,8 @@ two_pairs = squares ∷ squares ∷ []
 solved : SolvesEach two_pairs (squares_solution ∷ squares_solution ∷ [])
 solved = record { count = refl; each = each }
   where
-    each : (k : ℕ) (p : Strip) (s : Solution) → k < 2 → Solves (slice_index_or two_pairs k p) (slice_index_or (squares_solution ∷ squares_solution ∷ []) k s)
+    each : (k : ℕ) (p : Strip) (s : Solution) → k < 2
+        → Solves (slice_index_or two_pairs k p) (slice_index_or (squares_solution ∷ squares_solution ∷ []) k s)
     each zero p s l = squares_solved
     each (suc zero) p s l = squares_solved
     each (suc (suc k)) p s l = absurd (omega (arith, l))

@@ -29,11 +29,14 @@ crossed_test p a b =
     )
 
 -- edge i of a ring, by its place in the list of edges
-edge_at : (ring : List Point) (i : ℕ) → i < length ring → get_or (ring_edges ring) i (origin, origin) ≡ (around ring i, around ring (suc i))
+edge_at : (ring : List Point) (i : ℕ) → i < length ring
+    → get_or (ring_edges ring) i (origin, origin) ≡ (around ring i, around ring (suc i))
 edge_at ring i h =
-    ring_read ring i origin h ∙ ap₂ (λ (a b : Point). (a, b)) (sym (around-below ring i h)) (ap (item_around origin ring) (add-one i) ∙ sym (around_is ring (suc i)))
+    ring_read ring i origin h ∙ ap₂ (λ (a b : Point). (a, b)) (sym (around-below ring i h))
+    (ap (item_around origin ring) (add-one i) ∙ sym (around_is ring (suc i)))
 
-edge_test : (p : Point) (ring : List Point) (i : ℕ) → i < length ring → IsTrue (is_crossed p (get_or (ring_edges ring) i (origin, origin))) ↔ EdgeCrossed p ring i
+edge_test : (p : Point) (ring : List Point) (i : ℕ) → i < length ring
+    → IsTrue (is_crossed p (get_or (ring_edges ring) i (origin, origin))) ↔ EdgeCrossed p ring i
 edge_test p ring i h =
     let P : Point × Point → Type 0 = λ e. IsTrue (is_crossed p e) ↔ EdgeCrossed p ring i in
     subst P (sym (edge_at ring i h)) (crossed_test p (around ring i) (around ring (suc i)))
@@ -44,57 +47,83 @@ one_truth true false P f g = sym (g.1 (f.0 refl))
 one_truth false true P f g = f.1 (g.0 refl)
 one_truth false false P f g = refl
 
-pub count_more : {X : Type 0} (p : X → Bool) (xs : List X) (i : ℕ) (d : X) → i < length xs → count_by p (take (i + 1) xs) ≡ count_by p (take i xs) + cond (p (get_or xs i d)) 1 0
+pub count_more : {X : Type 0} (p : X → Bool) (xs : List X) (i : ℕ) (d : X) → i < length xs
+    → count_by p (take (i + 1) xs) ≡ count_by p (take i xs) + cond (p (get_or xs i d)) 1 0
 count_more p xs i d h = by_case (p (get_or xs i d)) refl
   where
     by_case : (b : Bool) → p (get_or xs i d) ≡ b → count_by p (take (i + 1) xs) ≡ count_by p (take i xs) + cond b 1 0
     by_case true e = count_by_more_yes p xs i d h e
     by_case false e = omega (arith, count_by_more_no p xs i d h e)
 
-counted_step : (p : Point) (ring : List Point) (i n m : ℕ) (b : Bool) → i < length ring → is_crossed p (get_or (ring_edges ring) i (origin, origin)) ≡ b → m ≡ n + cond b 1 0
+counted_step : (p : Point) (ring : List Point) (i n m : ℕ) (b : Bool) → i < length ring
+    → is_crossed p (get_or (ring_edges ring) i (origin, origin)) ≡ b → m ≡ n + cond b 1 0
     → CountedAmong (EdgeCrossed p ring) i n → CountedAmong (EdgeCrossed p ring) (suc i) m
-counted_step p ring i n m true h e f k = one_more (EdgeCrossed p ring) i n (suc i) m k refl (omega arith) ((edge_test p ring i h).0 e)
-counted_step p ring i n m false h e f k = none_more (EdgeCrossed p ring) i n (suc i) m k refl (omega arith) (λ w. let t : false ≡ true = sym e ∙ (edge_test p ring i h).1 w in cc)
+counted_step p ring i n m true h e f k =
+    one_more (EdgeCrossed p ring) i n (suc i) m k refl (omega arith) ((edge_test p ring i h).0 e)
+counted_step p ring i n m false h e f k =
+    none_more (EdgeCrossed p ring) i n (suc i) m k refl (omega arith)
+    (λ w. let t : false ≡ true = sym e ∙ (edge_test p ring i h).1 w in cc)
 
 -- the count of the first edges of a ring
-counted_first : (p : Point) (ring : List Point) (i : ℕ) → i ≤ length ring → CountedAmong (EdgeCrossed p ring) i (count_by (is_crossed p) (take i (ring_edges ring)))
+counted_first : (p : Point) (ring : List Point) (i : ℕ) → i ≤ length ring
+    → CountedAmong (EdgeCrossed p ring) i (count_by (is_crossed p) (take i (ring_edges ring)))
 counted_first p ring zero h = at_begin
 counted_first p ring (suc i) h =
-    let one : count_by (is_crossed p) (take (suc i) (ring_edges ring)) ≡ count_by (is_crossed p) (take i (ring_edges ring)) + cond (is_crossed p (get_or (ring_edges ring) i (origin, origin))) 1 0 =
-    ap (λ (k : ℕ). count_by (is_crossed p) (take k (ring_edges ring))) (sym (add-one i)) ∙ count_more (is_crossed p) (ring_edges ring) i (origin, origin) (omega (arith, ring_length ring)) in
-    counted_step p ring i (count_by (is_crossed p) (take i (ring_edges ring))) (count_by (is_crossed p) (take (suc i) (ring_edges ring))) (is_crossed p (get_or (ring_edges ring) i (origin, origin))) (omega arith) refl one (counted_first p ring i (omega arith))
+    let one : count_by (is_crossed p) (take (suc i) (ring_edges ring))
+    ≡ count_by (is_crossed p) (take i (ring_edges ring))
+    + cond (is_crossed p (get_or (ring_edges ring) i (origin, origin))) 1 0 =
+    ap (λ (k : ℕ). count_by (is_crossed p) (take k (ring_edges ring))) (sym (add-one i))
+    ∙ count_more (is_crossed p) (ring_edges ring) i (origin, origin) (omega (arith, ring_length ring)) in
+    counted_step p ring i (count_by (is_crossed p) (take i (ring_edges ring)))
+    (count_by (is_crossed p) (take (suc i) (ring_edges ring)))
+    (is_crossed p (get_or (ring_edges ring) i (origin, origin))) (omega arith) refl one
+    (counted_first p ring i (omega arith))
 
 pub inside_test : (p : Point) (ring : List Point) → IsTrue (is_inside p ring) ↔ Inside p ring
 unfolding is_inside
 inside_test p ring =
-    let all : take (length ring) (ring_edges ring) ≡ ring_edges ring = take_all (length ring) (ring_edges ring) (omega (arith, ring_length ring)) in
+    let all : take (length ring) (ring_edges ring) ≡ ring_edges ring =
+    take_all (length ring) (ring_edges ring) (omega (arith, ring_length ring)) in
     odd_decides p ring (length ring) (count_by (is_crossed p) (ring_edges ring)) refl
-    (subst (λ (es : List (Point × Point)). CountedAmong (EdgeCrossed p ring) (length ring) (count_by (is_crossed p) es)) all (counted_first p ring (length ring) (omega arith)))
+    (subst (λ (es : List (Point × Point)). CountedAmong (EdgeCrossed p ring) (length ring) (count_by (is_crossed p) es))
+    all (counted_first p ring (length ring) (omega arith)))
 
 -- one more edge on the way round a ring
-pub crossed_more : (p : Point) (ring : List Point) (i : ℕ) (b : Bool) (begin end : Point) → i < length ring → begin ≡ get_or ring i origin → end ≡ item_around origin ring (i + 1) → IsTrue b ↔ Crossed p begin end
-    → count_by (is_crossed p) (take (i + 1) (ring_edges ring)) ≡ count_by (is_crossed p) (take i (ring_edges ring)) + cond b 1 0
+pub crossed_more : (p : Point) (ring : List Point) (i : ℕ) (b : Bool) (begin end : Point) → i < length ring
+    → begin ≡ get_or ring i origin → end ≡ item_around origin ring (i + 1) → IsTrue b ↔ Crossed p begin end
+    → count_by (is_crossed p) (take (i + 1) (ring_edges ring)) ≡ count_by (is_crossed p) (take i (ring_edges ring))
+    + cond b 1 0
 crossed_more p ring i b begin end h e f t =
-    let edge : get_or (ring_edges ring) i (origin, origin) ≡ (begin, end) = ring_read ring i origin h ∙ ap₂ (λ (x y : Point). (x, y)) (sym e) (sym f) in
-    let same : is_crossed p (get_or (ring_edges ring) i (origin, origin)) ≡ b = ap (is_crossed p) edge ∙ one_truth (is_crossed p (begin, end)) b (Crossed p begin end) (crossed_test p begin end) t in
-    count_more (is_crossed p) (ring_edges ring) i (origin, origin) (omega (arith, ring_length ring)) ∙ ap (λ (x : Bool). count_by (is_crossed p) (take i (ring_edges ring)) + cond x 1 0) same
+    let edge : get_or (ring_edges ring) i (origin, origin) ≡ (begin, end) = ring_read ring i origin h
+    ∙ ap₂ (λ (x y : Point). (x, y)) (sym e) (sym f) in
+    let same : is_crossed p (get_or (ring_edges ring) i (origin, origin)) ≡ b = ap (is_crossed p) edge
+    ∙ one_truth (is_crossed p (begin, end)) b (Crossed p begin end) (crossed_test p begin end) t in
+    count_more (is_crossed p) (ring_edges ring) i (origin, origin) (omega (arith, ring_length ring))
+    ∙ ap (λ (x : Bool). count_by (is_crossed p) (take i (ring_edges ring)) + cond x 1 0) same
 
 -- the item after the last is the first
-pub last_end : (ring others : List Point) (first : Point) → ring ≡ first ∷ others → first ≡ item_around origin ring (length others + 1)
+pub last_end : (ring others : List Point) (first : Point) → ring ≡ first ∷ others
+    → first ≡ item_around origin ring (length others + 1)
 last_end ring others first e =
     let whole : length others + 1 ≡ length ring = omega (arith, ap length e) in
-    ap (λ (l : List Point). get_or l 0 origin) (sym e) ∙ sym (ap (item_around origin ring) whole ∙ ap (λ (k : ℕ). get_or ring k origin) (mod_self (length ring)))
+    ap (λ (l : List Point). get_or l 0 origin) (sym e)
+    ∙ sym (ap (item_around origin ring) whole ∙ ap (λ (k : ℕ). get_or ring k origin) (mod_self (length ring)))
 
-pub next_end : (ring others : List Point) (first : Point) (i : ℕ) → ring ≡ first ∷ others → i < length others → (get_or others i origin ≡ get_or ring (i + 1) origin) × (get_or others i origin ≡ item_around origin ring (i + 1))
+pub next_end : (ring others : List Point) (first : Point) (i : ℕ) → ring ≡ first ∷ others → i < length others
+    → (get_or others i origin ≡ get_or ring (i + 1) origin) × (get_or others i origin ≡ item_around origin ring (i + 1))
 next_end ring others first i e h =
-    let read : get_or others i origin ≡ get_or ring (i + 1) origin = ap (λ (k : ℕ). get_or (first ∷ others) k origin) (sym (add-one i)) ∙ ap (λ (l : List Point). get_or l (i + 1) origin) (sym e) in
+    let read : get_or others i origin ≡ get_or ring (i + 1) origin =
+    ap (λ (k : ℕ). get_or (first ∷ others) k origin) (sym (add-one i))
+    ∙ ap (λ (l : List Point). get_or l (i + 1) origin) (sym e) in
     let lt : i + 1 < length ring = omega (arith, ap length e) in
     (read, read ∙ ap (λ (k : ℕ). get_or ring k origin) (sym (mod-eq_of_lt lt)))
 
-pub whole_count : (p : Point) (ring : List Point) (n m : ℕ) → m ≡ length ring → n ≡ count_by (is_crossed p) (take m (ring_edges ring)) → nat_eq (n % 2) 1 ≡ is_inside p ring
+pub whole_count : (p : Point) (ring : List Point) (n m : ℕ) → m ≡ length ring
+    → n ≡ count_by (is_crossed p) (take m (ring_edges ring)) → nat_eq (n % 2) 1 ≡ is_inside p ring
 unfolding is_inside
 whole_count p ring n m e h =
-    let all : take m (ring_edges ring) ≡ ring_edges ring = take_all m (ring_edges ring) (omega (arith, ring_length ring)) in
+    let all : take m (ring_edges ring) ≡ ring_edges ring =
+    take_all m (ring_edges ring) (omega (arith, ring_length ring)) in
     ap (λ (k : ℕ). nat_eq (k % 2) 1) (h ∙ ap (count_by (is_crossed p)) all)
 
 pub none_inside : (p : Point) (ring : List Point) → length ring ≡ 0 → false ≡ is_inside p ring
@@ -103,6 +132,9 @@ none_inside p [] e = refl
 none_inside p (x ∷ ring) e = absurd (omega arith)
 
 -- the count after one more edge, by cases of the test
-pub more_counted : (p : Point) (ring : List Point) (i n m : ℕ) (b c : Bool) (begin end : Point) → i < length ring → begin ≡ get_or ring i origin → end ≡ item_around origin ring (i + 1) → IsTrue b ↔ Crossed p begin end
-    → n ≡ count_by (is_crossed p) (take i (ring_edges ring)) → b ≡ c → m ≡ n + cond c 1 0 → m ≡ count_by (is_crossed p) (take (i + 1) (ring_edges ring))
-more_counted p ring i n m b c begin end h e f t k l q = omega (arith, crossed_more p ring i b begin end h e f t, ap {B = ℕ} (λ (x : Bool). cond x 1 0) l)
+pub more_counted : (p : Point) (ring : List Point) (i n m : ℕ) (b c : Bool) (begin end : Point) → i < length ring
+    → begin ≡ get_or ring i origin → end ≡ item_around origin ring (i + 1) → IsTrue b ↔ Crossed p begin end
+    → n ≡ count_by (is_crossed p) (take i (ring_edges ring)) → b ≡ c → m ≡ n + cond c 1 0
+    → m ≡ count_by (is_crossed p) (take (i + 1) (ring_edges ring))
+more_counted p ring i n m b c begin end h e f t k l q =
+    omega (arith, crossed_more p ring i b begin end h e f t, ap {B = ℕ} (λ (x : Bool). cond x 1 0) l)

@@ -11,7 +11,16 @@ use Rattle.plane_geom.proofs.SegmentSides.{scaled_of}
 
 -- ---- exchanges
 turn_back : (t g e : ℕ) (c d : ℤ) → e ≡ g + t → scaled e g d c ≡ scaled e t c d
-turn_back t g e c d h = omega (arith, ints, mul-sub (pos g) c d, mul-sub (pos t) d c, ap (λ n. n * up c) h, ap (λ n. n * down c) h, ap (λ n. n * up d) h, ap (λ n. n * down d) h)
+turn_back t g e c d h = omega (
+  arith,
+  ints,
+  mul-sub (pos g) c d,
+  mul-sub (pos t) d c,
+  ap (λ n. n * up c) h,
+  ap (λ n. n * down c) h,
+  ap (λ n. n * up d) h,
+  ap (λ n. n * down d) h,
+)
 
 pub exchange_second : (a b c d : Point) → SharePoint a b d c → SharePoint a b c d
 exchange_second a b c d h =
@@ -34,7 +43,14 @@ exchange_both a b c d h = record {
   s = h.t;
   t = h.s;
   e = h.e;
-  at = record { positive = h.at.positive; on_first = h.at.on_second; on_second = h.at.on_first; x = sym h.at.x; y = sym h.at.y };
+  at = record {
+    positive = h.at.positive;
+    on_first = h.at.on_second;
+    on_second = h.at.on_first;
+    x = sym h.at.x;
+    y =
+        sym h.at.y;
+  };
 }
 
 pub exchange_first : (a b c d : Point) → SharePoint b a c d → SharePoint a b c d
@@ -48,9 +64,18 @@ pub record Flat (a b c d : Point) : Type 0 where
   pub a_flat : side c d a ≡ pos 0
   pub b_flat : side c d b ≡ pos 0
 
-turned_cross : (ux uy wx wy : ℤ) → cross_product (neg_ℤ ux) (neg_ℤ uy) (wx -ℤ ux) (wy -ℤ uy) ≡ neg_ℤ (cross_product ux uy wx wy)
+turned_cross : (ux uy wx wy : ℤ) → cross_product (neg_ℤ ux) (neg_ℤ uy) (wx -ℤ ux) (wy -ℤ uy)
+    ≡ neg_ℤ (cross_product ux uy wx wy)
 turned_cross ux uy wx wy =
-    omega (arith, ints, neg-mul ux (wy -ℤ uy), neg-mul uy (wx -ℤ ux), mul-sub ux wy uy, mul-sub uy wx ux, mul-comm ux uy)
+    omega (
+      arith,
+      ints,
+      neg-mul ux (wy -ℤ uy),
+      neg-mul uy (wx -ℤ ux),
+      mul-sub ux wy uy,
+      mul-sub uy wx ux,
+      mul-comm ux uy,
+    )
 
 side_back : (a b c : Point) → side b a c ≡ neg_ℤ (side a b c)
 side_back a b c =
@@ -101,7 +126,8 @@ one_begin a b c d hx hy = record {
 }
 
 -- c lies e.x and e.y of the way along ab
-begin_inside : (a b c d : Point) (s e : ℕ) → 0 < e → s ≤ e → pos s *ℤ (b.x -ℤ a.x) ≡ pos e *ℤ (c.x -ℤ a.x) → pos s *ℤ (b.y -ℤ a.y) ≡ pos e *ℤ (c.y -ℤ a.y) → SharePoint a b c d
+begin_inside : (a b c d : Point) (s e : ℕ) → 0 < e → s ≤ e → pos s *ℤ (b.x -ℤ a.x) ≡ pos e *ℤ (c.x -ℤ a.x)
+    → pos s *ℤ (b.y -ℤ a.y) ≡ pos e *ℤ (c.y -ℤ a.y) → SharePoint a b c d
 begin_inside a b c d s e positive h hx hy = record {
   s = s;
   t = 0;
@@ -134,25 +160,37 @@ column_core a b c d h low high =
     (omega (arith, ints, ap (λ z. pos s.0 *ℤ z) e.1, ap (λ z. pos e.0 *ℤ z) s.1)))
     (λ flat. one_begin a b c d h.ac (omega (arith, ints)))
 
-column_sorted : (a b c d : Point) → Column a b c d → RangesOverlap a.y b.y c.y d.y → a.y ≤ℤ b.y → c.y ≤ℤ d.y → SharePoint a b c d
+column_sorted : (a b c d : Point) → Column a b c d → RangesOverlap a.y b.y c.y d.y → a.y ≤ℤ b.y → c.y ≤ℤ d.y
+    → SharePoint a b c d
 column_sorted a b c d h o ab cd =
     by_lt_z c.y a.y
-    (λ below. exchange_both a b c d (column_core c d a b (record { ab = omega (arith, ints, h.ac, h.ad); ac = sym h.ac; ad = omega (arith, ints, h.ab, h.ac) }) (omega (arith, ints)) (omega (arith, ints, clamps, o.0, o.1))))
+    (λ below. exchange_both a b c d (column_core c d a b
+    (record { ab = omega (arith, ints, h.ac, h.ad); ac = sym h.ac; ad = omega (arith, ints, h.ab, h.ac) })
+    (omega (arith, ints)) (omega (arith, ints, clamps, o.0, o.1))))
     (λ above. column_core a b c d h above (omega (arith, ints, clamps, o.0, o.1)))
 
 column_half : (a b c d : Point) → Column a b c d → RangesOverlap a.y b.y c.y d.y → a.y ≤ℤ b.y → SharePoint a b c d
 column_half a b c d h o ab =
     by_lt_z d.y c.y
-    (λ falling. exchange_second a b c d (column_sorted a b d c (record { ab = h.ab; ac = h.ad; ad = h.ac }) (overlap_second a.y b.y c.y d.y o) ab (omega (arith, ints))))
+    (λ falling. exchange_second a b c d
+    (column_sorted a b d c (record { ab = h.ab; ac = h.ad; ad = h.ac }) (overlap_second a.y b.y c.y d.y o) ab
+    (omega (arith, ints))))
     (λ rising. column_sorted a b c d h o ab rising)
 
 column : (a b c d : Point) → Column a b c d → RangesOverlap a.y b.y c.y d.y → SharePoint a b c d
 column a b c d h o =
     by_lt_z b.y a.y
-    (λ falling. exchange_first a b c d (column_half b a c d (record { ab = sym h.ab; ac = omega (arith, ints, h.ab, h.ac); ad = omega (arith, ints, h.ab, h.ad) }) (overlap_first a.y b.y c.y d.y o) (omega (arith, ints))))
+    (λ falling. exchange_first a b c d
+    (column_half b a c d (record {
+      ab = sym h.ab;
+      ac = omega (arith, ints, h.ab, h.ac);
+      ad =
+          omega (arith, ints, h.ab, h.ad);
+    }) (overlap_first a.y b.y c.y d.y o) (omega (arith, ints))))
     (λ rising. column_half a b c d h o rising)
 
-flat_core : (a b c d : Point) → Flat a b c d → RangesOverlap a.y b.y c.y d.y → a.x ≤ℤ b.x → c.x ≤ℤ d.x → a.x ≤ℤ c.x → c.x ≤ℤ b.x → SharePoint a b c d
+flat_core : (a b c d : Point) → Flat a b c d → RangesOverlap a.y b.y c.y d.y → a.x ≤ℤ b.x → c.x ≤ℤ d.x → a.x ≤ℤ c.x
+    → c.x ≤ℤ b.x → SharePoint a b c d
 flat_core a b c d h o ab cd low high =
     by_lt_z a.x b.x
     (λ rising.
@@ -176,20 +214,28 @@ flat_core a b c d h o ab cd low high =
     omega (arith, ints)))
     (λ still. column a b c d (record { ab = omega (arith, ints); ac = ac; ad = omega (arith, ints) }) o))
 
-flat_sorted : (a b c d : Point) → Flat a b c d → RangesOverlap a.x b.x c.x d.x → RangesOverlap a.y b.y c.y d.y → a.x ≤ℤ b.x → c.x ≤ℤ d.x → SharePoint a b c d
+flat_sorted : (a b c d : Point) → Flat a b c d → RangesOverlap a.x b.x c.x d.x → RangesOverlap a.y b.y c.y d.y
+    → a.x ≤ℤ b.x → c.x ≤ℤ d.x → SharePoint a b c d
 flat_sorted a b c d h ox oy ab cd =
     by_lt_z c.x a.x
-    (λ below. exchange_both a b c d (flat_core c d a b (flat_both a b c d h) (overlap_both a.y b.y c.y d.y oy) cd ab (omega (arith, ints)) (omega (arith, ints, clamps, ox.0, ox.1))))
+    (λ below. exchange_both a b c d (flat_core c d a b (flat_both a b c d h) (overlap_both a.y b.y c.y d.y oy) cd ab
+    (omega (arith, ints)) (omega (arith, ints, clamps, ox.0, ox.1))))
     (λ above. flat_core a b c d h oy ab cd above (omega (arith, ints, clamps, ox.0, ox.1)))
 
-flat_half : (a b c d : Point) → Flat a b c d → RangesOverlap a.x b.x c.x d.x → RangesOverlap a.y b.y c.y d.y → a.x ≤ℤ b.x → SharePoint a b c d
+flat_half : (a b c d : Point) → Flat a b c d → RangesOverlap a.x b.x c.x d.x → RangesOverlap a.y b.y c.y d.y
+    → a.x ≤ℤ b.x → SharePoint a b c d
 flat_half a b c d h ox oy ab =
     by_lt_z d.x c.x
-    (λ falling. exchange_second a b c d (flat_sorted a b d c (flat_second a b c d h) (overlap_second a.x b.x c.x d.x ox) (overlap_second a.y b.y c.y d.y oy) ab (omega (arith, ints))))
+    (λ falling. exchange_second a b c d
+    (flat_sorted a b d c (flat_second a b c d h) (overlap_second a.x b.x c.x d.x ox)
+    (overlap_second a.y b.y c.y d.y oy) ab (omega (arith, ints))))
     (λ rising. flat_sorted a b c d h ox oy ab rising)
 
-pub flat_share : (a b c d : Point) → Flat a b c d → RangesOverlap a.x b.x c.x d.x → RangesOverlap a.y b.y c.y d.y → SharePoint a b c d
+pub flat_share : (a b c d : Point) → Flat a b c d → RangesOverlap a.x b.x c.x d.x → RangesOverlap a.y b.y c.y d.y
+    → SharePoint a b c d
 flat_share a b c d h ox oy =
     by_lt_z b.x a.x
-    (λ falling. exchange_first a b c d (flat_half b a c d (flat_first a b c d h) (overlap_first a.x b.x c.x d.x ox) (overlap_first a.y b.y c.y d.y oy) (omega (arith, ints))))
+    (λ falling. exchange_first a b c d
+    (flat_half b a c d (flat_first a b c d h) (overlap_first a.x b.x c.x d.x ox) (overlap_first a.y b.y c.y d.y oy)
+    (omega (arith, ints))))
     (λ rising. flat_half a b c d h ox oy rising)

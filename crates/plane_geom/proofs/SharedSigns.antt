@@ -12,9 +12,11 @@ use Rattle.plane_geom.proofs.SegmentSides.{difference_of, mixture, side_d, side_
 
 -- ---- from a common point to signs
 -- p, q, r, m as sides of c, d, a, b, where d is the cross product of the two segments
-opposite_of : (s t e : ℕ) (d p q r m : ℤ) → 0 < e → s ≤ e → t ≤ e → pos s *ℤ d ≡ pos e *ℤ r → pos t *ℤ d ≡ neg_ℤ (pos e *ℤ p) → q ≡ p +ℤ d → m +ℤ d ≡ r → Opposite p q × Opposite r m
+opposite_of : (s t e : ℕ) (d p q r m : ℤ) → 0 < e → s ≤ e → t ≤ e → pos s *ℤ d ≡ pos e *ℤ r
+    → pos t *ℤ d ≡ neg_ℤ (pos e *ℤ p) → q ≡ p +ℤ d → m +ℤ d ≡ r → Opposite p q × Opposite r m
 opposite_of s t e d p q r m positive on_first on_second h k hq hm =
-    let k' : pos t *ℤ d ≡ pos e *ℤ neg_ℤ p = omega (arith, ints, neg-mul p (pos e), mul-comm (pos e) (neg_ℤ p), mul-comm p (pos e)) in
+    let k' : pos t *ℤ d ≡ pos e *ℤ neg_ℤ p =
+    omega (arith, ints, neg-mul p (pos e), mul-comm (pos e) (neg_ℤ p), mul-comm p (pos e)) in
     by_lt_z d (pos 0)
     (λ below.
     let l : d ≤ℤ pos 0 = omega (arith, ints) in
@@ -26,13 +28,19 @@ opposite_of s t e d p q r m positive on_first on_second h k hq hm =
     let wp : (pos 0 ≤ℤ neg_ℤ p) × (neg_ℤ p ≤ℤ d) = within_up t e d (neg_ℤ p) positive on_second k' l in
     (inl (omega (arith, ints), omega (arith, ints)), inr (omega (arith, ints), omega (arith, ints))))
 
-pub opposite_sides : (a b c d : Point) → SharePoint a b c d → Opposite (side a b c) (side a b d) × Opposite (side c d a) (side c d b)
+pub opposite_sides : (a b c d : Point) → SharePoint a b c d → Opposite (side a b c) (side a b d)
+    × Opposite (side c d a) (side c d b)
 opposite_sides a b c d h =
-    let hx : pos h.s *ℤ (b.x -ℤ a.x) ≡ (pos h.e *ℤ (c.x -ℤ a.x)) +ℤ (pos h.t *ℤ (d.x -ℤ c.x)) = difference_of h.s h.t h.e a.x b.x c.x d.x h.at.x in
-    let hy : pos h.s *ℤ (b.y -ℤ a.y) ≡ (pos h.e *ℤ (c.y -ℤ a.y)) +ℤ (pos h.t *ℤ (d.y -ℤ c.y)) = difference_of h.s h.t h.e a.y b.y c.y d.y h.at.y in
-    opposite_of h.s h.t h.e (cross_product (b.x -ℤ a.x) (b.y -ℤ a.y) (d.x -ℤ c.x) (d.y -ℤ c.y)) (side a b c) (side a b d) (side c d a) (side c d b) h.at.positive h.at.on_first h.at.on_second
-    (along_second (pos h.s) (pos h.t) (pos h.e) (b.x -ℤ a.x) (b.y -ℤ a.y) (d.x -ℤ c.x) (d.y -ℤ c.y) (c.x -ℤ a.x) (c.y -ℤ a.y) hx hy ∙ ap (λ z. pos h.e *ℤ z) (sym (side_a a c d)))
-    (along_first (pos h.s) (pos h.t) (pos h.e) (b.x -ℤ a.x) (b.y -ℤ a.y) (d.x -ℤ c.x) (d.y -ℤ c.y) (c.x -ℤ a.x) (c.y -ℤ a.y) hx hy)
+    let hx : pos h.s *ℤ (b.x -ℤ a.x) ≡ (pos h.e *ℤ (c.x -ℤ a.x)) +ℤ (pos h.t *ℤ (d.x -ℤ c.x)) =
+    difference_of h.s h.t h.e a.x b.x c.x d.x h.at.x in
+    let hy : pos h.s *ℤ (b.y -ℤ a.y) ≡ (pos h.e *ℤ (c.y -ℤ a.y)) +ℤ (pos h.t *ℤ (d.y -ℤ c.y)) =
+    difference_of h.s h.t h.e a.y b.y c.y d.y h.at.y in
+    opposite_of h.s h.t h.e (cross_product (b.x -ℤ a.x) (b.y -ℤ a.y) (d.x -ℤ c.x) (d.y -ℤ c.y)) (side a b c)
+    (side a b d) (side c d a) (side c d b) h.at.positive h.at.on_first h.at.on_second
+    (along_second (pos h.s) (pos h.t) (pos h.e) (b.x -ℤ a.x) (b.y -ℤ a.y) (d.x -ℤ c.x) (d.y -ℤ c.y) (c.x -ℤ a.x)
+    (c.y -ℤ a.y) hx hy ∙ ap (λ z. pos h.e *ℤ z) (sym (side_a a c d)))
+    (along_first (pos h.s) (pos h.t) (pos h.e) (b.x -ℤ a.x) (b.y -ℤ a.y) (d.x -ℤ c.x) (d.y -ℤ c.y) (c.x -ℤ a.x)
+    (c.y -ℤ a.y) hx hy)
     (side_d a b c d)
     (side_b a b c d)
 
@@ -54,18 +62,24 @@ mixture_most s e n a b h p q =
     omega (arith, ints, ap (λ k. k * up n) f, ap (λ k. k * down n) f)
 
 -- one range does not lie above the other
-not_above : (s t e : ℕ) (a b c d : ℤ) → 0 < e → s ≤ e → t ≤ e → scaled e s a b ≡ scaled e t c d → int_min a b ≤ℤ int_max c d
+not_above : (s t e : ℕ) (a b c d : ℤ) → 0 < e → s ≤ e → t ≤ e → scaled e s a b ≡ scaled e t c d
+    → int_min a b ≤ℤ int_max c d
 not_above s t e a b c d positive h k same =
     by_lt_z (int_max c d) (int_min a b)
     (λ above.
-    let l : (pos e *ℤ int_min a b) ≤ℤ scaled e s a b = mixture_least s e (int_min a b) a b h (omega (arith, ints, clamps)) (omega (arith, ints, clamps)) in
-    let m : scaled e t c d ≤ℤ (pos e *ℤ int_max c d) = mixture_most t e (int_max c d) c d k (omega (arith, ints, clamps)) (omega (arith, ints, clamps)) in
-    let n : (pos e *ℤ (int_max c d +ℤ pos 1)) ≤ℤ (pos e *ℤ int_min a b) = le-mul e (int_max c d +ℤ pos 1) (int_min a b) (omega (arith, ints)) in
+    let l : (pos e *ℤ int_min a b) ≤ℤ scaled e s a b =
+    mixture_least s e (int_min a b) a b h (omega (arith, ints, clamps)) (omega (arith, ints, clamps)) in
+    let m : scaled e t c d ≤ℤ (pos e *ℤ int_max c d) =
+    mixture_most t e (int_max c d) c d k (omega (arith, ints, clamps)) (omega (arith, ints, clamps)) in
+    let n : (pos e *ℤ (int_max c d +ℤ pos 1)) ≤ℤ (pos e *ℤ int_min a b) =
+    le-mul e (int_max c d +ℤ pos 1) (int_min a b) (omega (arith, ints)) in
     absurd (omega (arith, ints, mul-add (pos e) (int_max c d) (pos 1))))
     (λ fine. fine)
 
-pub overlap_of : (s t e : ℕ) (a b c d : ℤ) → 0 < e → s ≤ e → t ≤ e → scaled e s a b ≡ scaled e t c d → RangesOverlap a b c d
-overlap_of s t e a b c d positive h k same = (not_above s t e a b c d positive h k same, not_above t s e c d a b positive k h (sym same))
+pub overlap_of : (s t e : ℕ) (a b c d : ℤ) → 0 < e → s ≤ e → t ≤ e → scaled e s a b ≡ scaled e t c d
+    → RangesOverlap a b c d
+overlap_of s t e a b c d positive h k same =
+    (not_above s t e a b c d positive h k same, not_above t s e c d a b positive k h (sym same))
 
 -- ---- the test
 pub record BySigns (a b c d : Point) : Type 0 where

@@ -10,6 +10,7 @@ pub found_told : (S : Parts) (fault : Fault) → OrNoMemory (IsFound S) fault �
 found_told S fault (inl m) = inl m
 found_told S fault (inr h) = inr (IsRingFound.in_sections fault h)
 
-pub groups_told : (S : Parts) (ps : List PairParts) (fault : Fault) → ArePairs S ps → OrNoMemory (IsFirstFault IsShort HasLongGroup (group_sizes S ps)) fault → IsRingFault S fault
+pub groups_told : (S : Parts) (ps : List PairParts) (fault : Fault) → ArePairs S ps
+    → OrNoMemory (IsFirstFault IsShort HasLongGroup (group_sizes S ps)) fault → IsRingFault S fault
 groups_told S ps fault a (inl m) = inl m
 groups_told S ps fault a (inr h) = inr (IsRingFound.in_groups fault ps a h)

@@ -37,7 +37,8 @@ pub record IsPicked (n : ℕ) (g : List ℕ) : Type 0 where
   pub some : 0 < length g
   pub there : AllByRecursion (λ k. k < n) g
 
-pub groups_there : (capped : ℕ → Bool) (parents : ℕ → Option ℕ) (n : ℕ) → AllByRecursion (IsPicked n) (groups capped parents n)
+pub groups_there : (capped : ℕ → Bool) (parents : ℕ → Option ℕ) (n : ℕ)
+    → AllByRecursion (IsPicked n) (groups capped parents n)
 groups_there capped parents n =
     all_map (IsPicked n) (group capped parents n) (filter (begins capped parents) (range_with_len 0 n))
     (filter_all (λ k. IsPicked n (group capped parents n k)) (begins capped parents) 0 n (λ k a l b. record {
@@ -46,7 +47,8 @@ groups_there capped parents n =
     }))
 
 -- the rings of a group
-pub group_rings : (rings : List RingView) (g : List ℕ) → AllByRecursion IsRingView rings → IsPicked (length rings) g → AllByRecursion IsRingView (pick rings g)
+pub group_rings : (rings : List RingView) (g : List ℕ) → AllByRecursion IsRingView rings → IsPicked (length rings) g
+    → AllByRecursion IsRingView (pick rings g)
 group_rings rings g h p = picked rings g h p.there
 
 pub group_some : (rings : List RingView) (g : List ℕ) → IsPicked (length rings) g → 0 < length (pick rings g)
@@ -57,24 +59,30 @@ abbrev pub groups_weight : (RingView → ℕ) → List RingView → List (List �
 groups_weight w rings [] = 0
 groups_weight w rings (g ∷ gs) = weight w (pick rings g) + groups_weight w rings gs
 
-mapped_weight : (w : RingView → ℕ) (rings : List RingView) (f : ℕ → List ℕ) (ks : List ℕ) → groups_weight w rings (map f ks) ≡ adds (λ k. adds (λ i. w (view_at rings i)) (f k)) ks
+mapped_weight : (w : RingView → ℕ) (rings : List RingView) (f : ℕ → List ℕ) (ks : List ℕ)
+    → groups_weight w rings (map f ks) ≡ adds (λ k. adds (λ i. w (view_at rings i)) (f k)) ks
 mapped_weight w rings f [] = refl
 mapped_weight w rings f (k ∷ ks) = omega (arith, mapped_weight w rings f ks, pick_weight w rings (f k))
 
 -- it is that over the rings with a cap
-pub side_weight : (w : RingView → ℕ) (outlines : List (List Point)) (rings : List RingView) (joined : List ℕ) → length rings ≡ length outlines → groups_weight w rings (side_groups outlines joined) ≡ weight w (others rings joined)
+pub side_weight : (w : RingView → ℕ) (outlines : List (List Point)) (rings : List RingView) (joined : List ℕ)
+    → length rings ≡ length outlines → groups_weight w rings (side_groups outlines joined)
+    ≡ weight w (others rings joined)
 side_weight w outlines rings joined e =
     let n : ℕ = length outlines in
     let r : ℕ → ℕ = λ i. w (view_at rings i) in
     let capped : ℕ → Bool = is_capped joined in
-    mapped_weight w rings (group capped (parent outlines) n) (filter (begins capped (parent outlines)) (range_with_len 0 n))
+    mapped_weight w rings (group capped (parent outlines) n)
+    (filter (begins capped (parent outlines)) (range_with_len 0 n))
     ∙ group_adds r capped (parent outlines) n (families outlines)
     ∙ ap (λ (m : ℕ). adds r (filter capped (range_with_len 0 m))) (sym e)
     ∙ sym (pick_weight w rings (filter capped (range_with_len 0 (length rings))))
 
 -- ---- edges
-groups_total : (f : ℕ → ℕ → ℕ) (rings : List RingView) (gs : List (List ℕ)) → AllByRecursion IsRingView rings → AllByRecursion (IsPicked (length rings)) gs →
-    total f (ring_tops rings gs) + groups_weight (edges (back f)) rings gs ≡ total (back f) (ring_tops rings gs) + groups_weight (edges f) rings gs
+groups_total : (f : ℕ → ℕ → ℕ) (rings : List RingView) (gs : List (List ℕ)) → AllByRecursion IsRingView rings
+    → AllByRecursion (IsPicked (length rings)) gs →
+    total f (ring_tops rings gs) + groups_weight (edges (back f)) rings gs ≡ total (back f) (ring_tops rings gs)
+    + groups_weight (edges f) rings gs
 groups_total f rings [] h p = refl
 groups_total f rings (g ∷ gs) h p =
     let here : List RingView = pick rings g in
@@ -88,12 +96,15 @@ groups_total f rings (g ∷ gs) h p =
       total-append (back f) (group_cap here) (ring_tops rings gs),
     )
 
-pub groups_three : (rings : List RingView) (gs : List (List ℕ)) → AllByRecursion IsRingView rings → AllByRecursion (IsPicked (length rings)) gs → AllByRecursion HasThree (ring_tops rings gs)
+pub groups_three : (rings : List RingView) (gs : List (List ℕ)) → AllByRecursion IsRingView rings
+    → AllByRecursion (IsPicked (length rings)) gs → AllByRecursion HasThree (ring_tops rings gs)
 groups_three rings [] h p = tt
 groups_three rings (g ∷ gs) h p =
     let ring = group_view (pick rings g) (group_rings rings g h p.0) (group_some rings g p.0) in
     let whole : RingView = composite (pick rings g) in
-    all_join HasThree (group_cap (pick rings g)) (ring_tops rings gs) (cut_three 0 (places_by Pass whole.points) whole.ids (corners_by_of Pass whole.points whole.ids ring.enough ring.same)) (groups_three rings gs h p.1)
+    all_join HasThree (group_cap (pick rings g)) (ring_tops rings gs)
+    (cut_three 0 (places_by Pass whole.points) whole.ids
+    (corners_by_of Pass whole.points whole.ids ring.enough ring.same)) (groups_three rings gs h p.1)
 
 -- the facts on a section and one of its faces
 pub record Side (outlines : List (List Point)) (rings : List RingView) (joined : List ℕ) : Type 0 where
@@ -103,8 +114,10 @@ pub record Side (outlines : List (List Point)) (rings : List RingView) (joined :
   pub groups : AllByRecursion (IsPicked (length rings)) (side_groups outlines joined)
 
 -- the caps of groups leave over what the caps of their contours do
-tops_same : (f : ℕ → ℕ → ℕ) (outlines : List (List Point)) (rings : List RingView) (joined : List ℕ) → Side outlines rings joined →
-    total f (ring_tops rings (side_groups outlines joined)) + total (back f) (tops (others rings joined)) ≡ total (back f) (ring_tops rings (side_groups outlines joined)) + total f (tops (others rings joined))
+tops_same : (f : ℕ → ℕ → ℕ) (outlines : List (List Point)) (rings : List RingView) (joined : List ℕ)
+    → Side outlines rings joined →
+    total f (ring_tops rings (side_groups outlines joined)) + total (back f) (tops (others rings joined))
+    ≡ total (back f) (ring_tops rings (side_groups outlines joined)) + total f (tops (others rings joined))
 tops_same f outlines rings joined k =
     omega (
       arith,
@@ -114,8 +127,12 @@ tops_same f outlines rings joined k =
       side_weight (edges (back f)) outlines rings joined k.count,
     )
 
-pub face_same : (f : ℕ → ℕ → ℕ) (face : Face) (outlines : List (List Point)) (rings : List RingView) (joined : List ℕ) → Side outlines rings joined →
-    total f (ring_caps_on face rings (side_groups outlines joined)) + total (back f) (caps_on face (others rings joined)) ≡ total (back f) (ring_caps_on face rings (side_groups outlines joined)) + total f (caps_on face (others rings joined))
+pub face_same : (f : ℕ → ℕ → ℕ) (face : Face) (outlines : List (List Point)) (rings : List RingView) (joined : List ℕ)
+    → Side outlines rings joined →
+    total f (ring_caps_on face rings (side_groups outlines joined))
+    + total (back f) (caps_on face (others rings joined))
+    ≡ total (back f) (ring_caps_on face rings (side_groups outlines joined))
+    + total f (caps_on face (others rings joined))
 face_same f Above outlines rings joined k = tops_same f outlines rings joined k
 face_same f Below outlines rings joined k =
     let made : List (List ℕ) = ring_tops rings (side_groups outlines joined) in
@@ -132,17 +149,27 @@ face_same f Below outlines rings joined k =
     )
 
 -- ---- how many triangles
-group_length : (rings : List RingView) → AllByRecursion IsRingView rings → 0 < length rings → length (group_cap rings) + 4 ≡ weight size rings
+group_length : (rings : List RingView) → AllByRecursion IsRingView rings → 0 < length rings
+    → length (group_cap rings) + 4 ≡ weight size rings
 group_length rings h some =
     let k = composite_length rings h some in
     let whole : RingView = composite rings in
-    omega (arith, k.0, sizes rings, cut_count 0 (places_by Pass whole.points) whole.ids (corners_by_of Pass whole.points whole.ids k.1.enough k.1.same))
+    omega (
+      arith,
+      k.0,
+      sizes rings,
+      cut_count 0 (places_by Pass whole.points) whole.ids
+          (corners_by_of Pass whole.points whole.ids k.1.enough k.1.same),
+    )
   where
-    sizes : (rings : List RingView) → sum_by (λ (r : RingView). length r.ids) rings + 2 * length rings ≡ weight size rings
+    sizes : (rings : List RingView) → sum_by (λ (r : RingView). length r.ids) rings + 2 * length rings
+        ≡ weight size rings
     sizes [] = refl
     sizes (r ∷ rings) = omega (arith, sizes rings, sum_by-cons (λ (r : RingView). length r.ids) r rings)
 
-groups_length : (rings : List RingView) (gs : List (List ℕ)) → AllByRecursion IsRingView rings → AllByRecursion (IsPicked (length rings)) gs → length (ring_tops rings gs) + 4 * length gs ≡ groups_weight size rings gs
+groups_length : (rings : List RingView) (gs : List (List ℕ)) → AllByRecursion IsRingView rings
+    → AllByRecursion (IsPicked (length rings)) gs
+    → length (ring_tops rings gs) + 4 * length gs ≡ groups_weight size rings gs
 groups_length rings [] h p = refl
 groups_length rings (g ∷ gs) h p =
     omega (
@@ -152,21 +179,31 @@ groups_length rings (g ∷ gs) h p =
       length-append (group_cap (pick rings g)) (ring_tops rings gs),
     )
 
-groups_few : (rings : List RingView) (gs : List (List ℕ)) → AllByRecursion (IsPicked (length rings)) gs → length gs ≤ groups_weight (λ r. 1) rings gs
+groups_few : (rings : List RingView) (gs : List (List ℕ)) → AllByRecursion (IsPicked (length rings)) gs
+    → length gs ≤ groups_weight (λ r. 1) rings gs
 groups_few rings [] p = omega arith
 groups_few rings (g ∷ gs) p = omega (arith, groups_few rings gs p.1, ones (pick rings g), group_some rings g p.0)
 
-caps_length : (rings : List RingView) → AllByRecursion IsRingView rings → length (tops rings) + 4 * length rings ≡ weight size rings
+caps_length : (rings : List RingView) → AllByRecursion IsRingView rings
+    → length (tops rings) + 4 * length rings ≡ weight size rings
 caps_length [] h = refl
-caps_length (r ∷ rings) h = omega (arith, caps_length rings h.1, top_length r h.0, h.0.enough, length-append (top_cap r.points r.ids) (tops rings))
+caps_length (r ∷ rings) h = omega (
+  arith,
+  caps_length rings h.1,
+  top_length r h.0,
+  h.0.enough,
+  length-append (top_cap r.points r.ids) (tops rings),
+)
 
 -- at least as many as in the caps of the contours, and a few more
 pub record IsLength (made plain rings : ℕ) : Type 0 where
   pub enough : plain ≤ made
   pub few : made ≤ plain + 4 * rings
 
-pub face_length : (face : Face) (outlines : List (List Point)) (rings : List RingView) (joined : List ℕ) → Side outlines rings joined →
-    IsLength (length (ring_caps_on face rings (side_groups outlines joined))) (length (caps_on face (others rings joined))) (length (others rings joined))
+pub face_length : (face : Face) (outlines : List (List Point)) (rings : List RingView) (joined : List ℕ)
+    → Side outlines rings joined →
+    IsLength (length (ring_caps_on face rings (side_groups outlines joined)))
+    (length (caps_on face (others rings joined))) (length (others rings joined))
 face_length face outlines rings joined k =
     let gs : List (List ℕ) = side_groups outlines joined in
     let made = groups_length rings gs k.views k.groups in
@@ -175,12 +212,23 @@ face_length face outlines rings joined k =
     let made_faced = length-faced face (ring_tops rings gs) in
     let plain_faced = length-faced face (tops (others rings joined)) in
     record {
-      enough = omega (arith, made, plain, all, made_faced, plain_faced, groups_few rings gs k.groups, side_weight (λ r. 1) outlines rings joined k.count, ones (others rings joined));
+      enough = omega (
+        arith,
+        made,
+        plain,
+        all,
+        made_faced,
+        plain_faced,
+        groups_few rings gs k.groups,
+        side_weight (λ r. 1) outlines rings joined k.count,
+        ones (others rings joined),
+      );
       few = omega (arith, made, plain, all, made_faced, plain_faced);
     }
 
 -- ---- folded triangles
-group_folded_few : (rings : List RingView) → AllByRecursion IsRingView rings → 0 < length rings → group_folded rings ≤ weight size rings
+group_folded_few : (rings : List RingView) → AllByRecursion IsRingView rings → 0 < length rings
+    → group_folded rings ≤ weight size rings
 group_folded_few rings h some =
     let ring = group_view rings h some in
     let points : List Point = (composite rings).points in
@@ -191,7 +239,8 @@ group_folded_few rings h some =
       (composite_size rings h some).0,
     )
 
-groups_folded_few : (rings : List RingView) (gs : List (List ℕ)) → AllByRecursion IsRingView rings → AllByRecursion (IsPicked (length rings)) gs → groups_folded rings gs ≤ groups_weight size rings gs
+groups_folded_few : (rings : List RingView) (gs : List (List ℕ)) → AllByRecursion IsRingView rings
+    → AllByRecursion (IsPicked (length rings)) gs → groups_folded rings gs ≤ groups_weight size rings gs
 groups_folded_few rings [] h p = omega arith
 groups_folded_few rings (g ∷ gs) h p =
     omega (
@@ -201,20 +250,36 @@ groups_folded_few rings (g ∷ gs) h p =
       sum_by-cons (λ (k : List ℕ). group_folded (pick rings k)) g gs,
     )
 
-pub side_folded : (outlines : List (List Point)) (rings : List RingView) (joined : List ℕ) → Side outlines rings joined → groups_folded rings (side_groups outlines joined) ≤ weight size (others rings joined)
-side_folded outlines rings joined k = omega (arith, groups_folded_few rings (side_groups outlines joined) k.views k.groups, side_weight size outlines rings joined k.count)
+pub side_folded : (outlines : List (List Point)) (rings : List RingView) (joined : List ℕ) → Side outlines rings joined
+    → groups_folded rings (side_groups outlines joined) ≤ weight size (others rings joined)
+side_folded outlines rings joined k =
+    omega (
+      arith,
+      groups_folded_few rings (side_groups outlines joined) k.views k.groups,
+      side_weight size outlines rings joined k.count,
+    )
 
 -- ---- ids
-pub groups_each : (P : ℕ → Type 0) (rings : List RingView) (gs : List (List ℕ)) → AllByRecursion IsRingView rings → AllByRecursion (IsPicked (length rings)) gs → AllByRecursion (λ (g : List ℕ). All P (composite (pick rings g)).ids) gs → All (All P) (ring_tops rings gs)
+pub groups_each : (P : ℕ → Type 0) (rings : List RingView) (gs : List (List ℕ)) → AllByRecursion IsRingView rings
+    → AllByRecursion (IsPicked (length rings)) gs
+    → AllByRecursion (λ (g : List ℕ). All P (composite (pick rings g)).ids) gs → All (All P) (ring_tops rings gs)
 groups_each P rings [] h p k = All-nil (All P)
 groups_each P rings (g ∷ gs) h p k =
     let ring = group_view (pick rings g) (group_rings rings g h p.0) (group_some rings g p.0) in
     let whole : RingView = composite (pick rings g) in
-    All-append (All P) (group_cap (pick rings g)) (ring_tops rings gs) (cut_all P 0 (places_by Pass whole.points) whole.ids (corners_by_of Pass whole.points whole.ids ring.enough ring.same) k.0) (groups_each P rings gs h p.1 k.1)
+    All-append (All P) (group_cap (pick rings g)) (ring_tops rings gs)
+    (cut_all P 0 (places_by Pass whole.points) whole.ids
+    (corners_by_of Pass whole.points whole.ids ring.enough ring.same) k.0) (groups_each P rings gs h p.1 k.1)
 
-pub composites_each : (P : ℕ → Type 0) (rings : List RingView) (gs : List (List ℕ)) → EachId P rings → AllByRecursion (λ (g : List ℕ). All P (composite (pick rings g)).ids) gs
+pub composites_each : (P : ℕ → Type 0) (rings : List RingView) (gs : List (List ℕ)) → EachId P rings
+    → AllByRecursion (λ (g : List ℕ). All P (composite (pick rings g)).ids) gs
 composites_each P rings [] h = tt
-composites_each P rings (g ∷ gs) h = (composite_each P (pick rings g) (pick_each P rings g h), composites_each P rings gs h)
+composites_each P rings (g ∷ gs) h =
+    (composite_each P (pick rings g) (pick_each P rings g h), composites_each P rings gs h)
 
-pub face_known : (n : ℕ) (face : Face) (rings : List RingView) (gs : List (List ℕ)) → AllByRecursion IsRingView rings → AllByRecursion (IsPicked (length rings)) gs → EachId (λ v. v < n) rings → All (Known n) (ring_caps_on face rings gs)
-face_known n face rings gs h p k = faced_all (λ v. v < n) face (ring_tops rings gs) (groups_three rings gs h p) (groups_each (λ v. v < n) rings gs h p (composites_each (λ v. v < n) rings gs k))
+pub face_known : (n : ℕ) (face : Face) (rings : List RingView) (gs : List (List ℕ)) → AllByRecursion IsRingView rings
+    → AllByRecursion (IsPicked (length rings)) gs → EachId (λ v. v < n) rings
+    → All (Known n) (ring_caps_on face rings gs)
+face_known n face rings gs h p k =
+    faced_all (λ v. v < n) face (ring_tops rings gs) (groups_three rings gs h p)
+    (groups_each (λ v. v < n) rings gs h p (composites_each (λ v. v < n) rings gs k))

@@ -49,7 +49,8 @@ within_test s a b c p h =
     let x : Bool = int_le (pos 0) (s *ℤ side a b p) in
     let y : Bool = int_le (pos 0) (s *ℤ side b c p) in
     let z : Bool = int_le (pos 0) (s *ℤ side c a p) in
-    and_from (x && y) z (and_from x y (not_negative_test (s *ℤ side a b p) h.first) (not_negative_test (s *ℤ side b c p) h.second))
+    and_from (x && y) z (and_from x y (not_negative_test (s *ℤ side a b p) h.first)
+    (not_negative_test (s *ℤ side b c p) h.second))
     (not_negative_test (s *ℤ side c a p) h.third)
 
 -- a place that is none of three
@@ -75,12 +76,14 @@ one_point : (p q : Point) → same_point p q ≡ true → p ≡ q
 one_point p q e =
     let x = and_parts (int_eq p.x q.x) (int_eq p.y q.y && int_eq p.z q.z) e in
     let y = and_parts (int_eq p.y q.y) (int_eq p.z q.z) x.1 in
-    ap₂ (λ (a b : ℤ). let r : Point = record { x = a; y = b; z = p.z } in r) (int_eq_is p.x q.x x.0) (int_eq_is p.y q.y y.0)
+    ap₂ (λ (a b : ℤ). let r : Point = record { x = a; y = b; z = p.z } in r) (int_eq_is p.x q.x x.0)
+    (int_eq_is p.y q.y y.0)
     ∙ ap (λ (a : ℤ). let r : Point = record { x = q.x; y = q.y; z = a } in r) (int_eq_is p.z q.z y.1)
 
 same_test : (p q : Point) → p ≡ q → same_point p q ≡ true
 same_test p q e =
-    ap (same_point p) (sym e) ∙ and_from (int_eq p.x p.x) (int_eq p.y p.y && int_eq p.z p.z) (eq_test p.x) (and_from (int_eq p.y p.y) (int_eq p.z p.z) (eq_test p.y) (eq_test p.z))
+    ap (same_point p) (sym e) ∙ and_from (int_eq p.x p.x) (int_eq p.y p.y && int_eq p.z p.z) (eq_test p.x)
+    (and_from (int_eq p.y p.y) (int_eq p.z p.z) (eq_test p.y) (eq_test p.z))
 
 twin_is : (ring : List Point) (t k : ℕ) → is_twin ring t k ≡ true → IsTwin ring t k
 twin_is ring t k h =
@@ -90,7 +93,8 @@ twin_is ring t k h =
     let b : Point = point_at ring t in
     let c : Point = point_at ring (place_after n t) in
     elim (or_cases (same_point p a || same_point p b) (same_point p c) h) [
-      | inl u ↦ elim (or_cases (same_point p a) (same_point p b) u) [ inl e ↦ inl (one_point p a e) | inr e ↦ inr (inl (one_point p b e)) ]
+      | inl u ↦ elim (or_cases (same_point p a) (same_point p b) u)
+          [ inl e ↦ inl (one_point p a e) | inr e ↦ inr (inl (one_point p b e)) ]
       | inr e ↦ inr (inr (one_point p c e))
     ]
 
@@ -98,25 +102,33 @@ twin_test : (ring : List Point) (t k : ℕ) → IsTwin ring t k → is_twin ring
 twin_test ring t k (inl e) =
     let n : ℕ = length ring in
     let p : Point = point_at ring k in
-    or_left (same_point p (point_at ring (place_before n t)) || same_point p (point_at ring t)) (same_point p (point_at ring (place_after n t)))
-    (or_left (same_point p (point_at ring (place_before n t))) (same_point p (point_at ring t)) (same_test p (point_at ring (place_before n t)) e))
+    or_left (same_point p (point_at ring (place_before n t)) || same_point p (point_at ring t))
+    (same_point p (point_at ring (place_after n t)))
+    (or_left (same_point p (point_at ring (place_before n t))) (same_point p (point_at ring t))
+    (same_test p (point_at ring (place_before n t)) e))
 twin_test ring t k (inr (inl e)) =
     let n : ℕ = length ring in
     let p : Point = point_at ring k in
-    or_left (same_point p (point_at ring (place_before n t)) || same_point p (point_at ring t)) (same_point p (point_at ring (place_after n t)))
-    (or_right (same_point p (point_at ring (place_before n t))) (same_point p (point_at ring t)) (same_test p (point_at ring t) e))
+    or_left (same_point p (point_at ring (place_before n t)) || same_point p (point_at ring t))
+    (same_point p (point_at ring (place_after n t)))
+    (or_right (same_point p (point_at ring (place_before n t))) (same_point p (point_at ring t))
+    (same_test p (point_at ring t) e))
 twin_test ring t k (inr (inr e)) =
     let n : ℕ = length ring in
     let p : Point = point_at ring k in
-    or_right (same_point p (point_at ring (place_before n t)) || same_point p (point_at ring t)) (same_point p (point_at ring (place_after n t))) (same_test p (point_at ring (place_after n t)) e)
+    or_right (same_point p (point_at ring (place_before n t)) || same_point p (point_at ring t))
+    (same_point p (point_at ring (place_after n t))) (same_test p (point_at ring (place_after n t)) e)
 
 -- a vertex is passed exactly if it is a twin and twins are passed
-not_passed : (w : Twins) (ring : List Point) (t k : ℕ) → not (pass w && is_twin ring t k) ≡ true → w ≡ Pass → IsTwin ring t k → ⊥
+not_passed : (w : Twins) (ring : List Point) (t k : ℕ) → not (pass w && is_twin ring t k) ≡ true → w ≡ Pass
+    → IsTwin ring t k → ⊥
 not_passed w ring t k h e twin =
-    let both : (pass w && is_twin ring t k) ≡ true = and_from (pass w) (is_twin ring t k) (ap pass e) (twin_test ring t k twin) in
+    let both : (pass w && is_twin ring t k) ≡ true =
+    and_from (pass w) (is_twin ring t k) (ap pass e) (twin_test ring t k twin) in
     both_ways (pass w && is_twin ring t k) (not-true (pass w && is_twin ring t k) h) both
 
-not_passed_test : (w : Twins) (ring : List Point) (t k : ℕ) → (w ≡ Pass → IsTwin ring t k → ⊥) → not (pass w && is_twin ring t k) ≡ true
+not_passed_test : (w : Twins) (ring : List Point) (t k : ℕ) → (w ≡ Pass → IsTwin ring t k → ⊥)
+    → not (pass w && is_twin ring t k) ≡ true
 not_passed_test Hinder ring t k h = refl
 not_passed_test Pass ring t k h =
     elim (cases_Bool (is_twin ring t k)) [
@@ -127,13 +139,16 @@ not_passed_test Pass ring t k h =
 -- ---- vertices that block an ear
 -- the vertex at place k lies in the closed triangle of the corner at place t
 abbrev in_corner : ℤ → List Point → ℕ → ℕ → Bool
-in_corner s ring t k = is_within s (point_at ring (place_before (length ring) t)) (point_at ring t) (point_at ring (place_after (length ring) t)) (point_at ring k)
+in_corner s ring t k = is_within s (point_at ring (place_before (length ring) t)) (point_at ring t)
+    (point_at ring (place_after (length ring) t)) (point_at ring k)
 
 abbrev InCorner : ℤ → List Point → ℕ → ℕ → Type 0
-InCorner s ring t k = IsInTriangle s (point_at ring (place_before (length ring) t)) (point_at ring t) (point_at ring (place_after (length ring) t)) (point_at ring k)
+InCorner s ring t k = IsInTriangle s (point_at ring (place_before (length ring) t)) (point_at ring t)
+    (point_at ring (place_after (length ring) t)) (point_at ring k)
 
 -- the vertex at place k blocks by the test exactly if it does by the rule
-hinders_is : (w : Twins) (s : ℤ) (ring : List Point) (t k : ℕ) → k < length ring → hinders w s ring t k ≡ true → CanHinder w ring t k × InCorner s ring t k
+hinders_is : (w : Twins) (s : ℤ) (ring : List Point) (t k : ℕ) → k < length ring → hinders w s ring t k ≡ true
+    → CanHinder w ring t k × InCorner s ring t k
 hinders_is w s ring t k l h =
     let n : ℕ = length ring in
     let a : ℕ = place_before n t in
@@ -156,26 +171,31 @@ hinders_is w s ring t k l h =
       within_is s (point_at ring a) (point_at ring t) (point_at ring c) (point_at ring k) parts.1,
     )
 
-hinders_test : (w : Twins) (s : ℤ) (ring : List Point) (t k : ℕ) → CanHinder w ring t k → InCorner s ring t k → hinders w s ring t k ≡ true
+hinders_test : (w : Twins) (s : ℤ) (ring : List Point) (t k : ℕ) → CanHinder w ring t k → InCorner s ring t k
+    → hinders w s ring t k ≡ true
 hinders_test w s ring t k h within =
     let n : ℕ = length ring in
     let a : ℕ = place_before n t in
     let c : ℕ = place_after n t in
     let other : Bool = not ((k == a) || (k == t) || (k == c)) in
     and_from (other && in_corner s ring t k) (not (pass w && is_twin ring t k))
-    (and_from other (in_corner s ring t k) (none_of_test k a t c h.not_before h.not_at h.not_after) (within_test s (point_at ring a) (point_at ring t) (point_at ring c) (point_at ring k) within))
+    (and_from other (in_corner s ring t k) (none_of_test k a t c h.not_before h.not_at h.not_after)
+    (within_test s (point_at ring a) (point_at ring t) (point_at ring c) (point_at ring k) within))
     (not_passed_test w ring t k h.no_twin)
 
-pub ear_is : (w : Twins) (s : ℤ) (ring : List Point) (t : ℕ) → t < length ring → is_ear w s ring t ≡ true → IsEar w s ring t
+pub ear_is : (w : Twins) (s : ℤ) (ring : List Point) (t : ℕ) → t < length ring → is_ear w s ring t ≡ true
+    → IsEar w s ring t
 unfolding is_ear
 ear_is w s ring t l h =
     let free : ℕ → Bool = λ k. not (hinders w s ring t k) in
-    let parts = and_parts (int_lt (pos 0) (s *ℤ side_of (corner origin ring t))) (list_all free (range_with_len 0 (length ring))) h in
+    let parts = and_parts (int_lt (pos 0) (s *ℤ side_of (corner origin ring t)))
+    (list_all free (range_with_len 0 (length ring))) h in
     record {
       there = l;
       turns = positive (s *ℤ side_of (corner origin ring t)) parts.0;
       empty = λ k can within.
-          let passed : free k ≡ true = one_passes free 0 (length ring) k (omega arith) (omega (arith, can.there)) parts.1 in
+          let passed : free k ≡ true = one_passes free 0 (length ring) k (omega arith) (omega (arith, can.there))
+          parts.1 in
           let free_of : hinders w s ring t k ≡ false = not-true (hinders w s ring t k) passed in
           let held : hinders w s ring t k ≡ true = hinders_test w s ring t k can within in
           both_ways (hinders w s ring t k) free_of held;
@@ -199,24 +219,32 @@ cut_next w s ring = at (first_or_none test 0 (length ring))
     test : ℕ → Bool
     test = is_ear w s ring
 
-    at : First test 0 (length ring) ⊎ ((k : ℕ) → 0 ≤ k → k < 0 + length ring → test k ≡ false) → IsCutNext w s ring (ear_place w s ring)
+    at : First test 0 (length ring) ⊎ ((k : ℕ) → 0 ≤ k → k < 0 + length ring → test k ≡ false)
+        → IsCutNext w s ring (ear_place w s ring)
     at (inl f) =
-        let e : ear_place w s ring ≡ f.place = ap (λ (o : Option ℕ). unwrap_or o 0) (first_found test 0 (length ring) f.place f.after f.below f.earlier f.passes) in
+        let e : ear_place w s ring ≡ f.place =
+        ap (λ (o : Option ℕ). unwrap_or o 0)
+        (first_found test 0 (length ring) f.place f.after f.below f.earlier f.passes) in
         subst (IsCutNext w s ring) (sym e)
-        (first_ear f.place (ear_is w s ring f.place (omega (arith, f.below)) f.passes) (λ k l h. both_ways (test k) (f.earlier k (omega arith) l) (ear_test w s ring k h)))
+        (first_ear f.place (ear_is w s ring f.place (omega (arith, f.below)) f.passes)
+        (λ k l h. both_ways (test k) (f.earlier k (omega arith) l) (ear_test w s ring k h)))
     at (inr n) =
         let e : ear_place w s ring ≡ 0 = ap (λ (o : Option ℕ). unwrap_or o 0) (none_found test 0 (length ring) n) in
         subst (IsCutNext w s ring) (sym e)
         (no_ear (λ k h. both_ways (test k) (n k (omega arith) (omega (arith, h.there))) (ear_test w s ring k h)))
 
-ears_cut : (w : Twins) (s : ℤ) (n : ℕ) (ring : List Point) (ids : List ℕ) → length ring ≡ n + 3 → IsCutBy w s ring ids (cut 0 (ear_places w s n ring) ids)
+ears_cut : (w : Twins) (s : ℤ) (n : ℕ) (ring : List Point) (ids : List ℕ) → length ring ≡ n + 3
+    → IsCutBy w s ring ids (cut 0 (ear_places w s n ring) ids)
 ears_cut w s zero ring ids h = last ring ids h
 ears_cut w s (suc n) ring ids h =
     let t : ℕ = ear_place w s ring in
-    let size : length (remove ring t) ≡ n + 3 = omega (arith, h, length-remove ring t (ear_place_below w s ring (omega (arith, h)))) in
-    next ring ids t (cut 0 (ear_places w s n (remove ring t)) (remove ids t)) (omega (arith, h)) (cut_next w s ring) (ears_cut w s n (remove ring t) (remove ids t) size)
+    let size : length (remove ring t) ≡ n + 3 =
+    omega (arith, h, length-remove ring t (ear_place_below w s ring (omega (arith, h)))) in
+    next ring ids t (cut 0 (ear_places w s n (remove ring t)) (remove ids t)) (omega (arith, h)) (cut_next w s ring)
+    (ears_cut w s n (remove ring t) (remove ids t) size)
 
 -- the cap of a ring is cut by the rule
-pub cap_cut : (w : Twins) (ring : List Point) (ids : List ℕ) → 3 ≤ length ring → IsCutBy w (sign_of ring) ring ids (cap_by w ring ids)
+pub cap_cut : (w : Twins) (ring : List Point) (ids : List ℕ) → 3 ≤ length ring
+    → IsCutBy w (sign_of ring) ring ids (cap_by w ring ids)
 unfolding places_by
 cap_cut w ring ids h = ears_cut w (sign_of ring) (length ring - 3) ring ids (omega arith)

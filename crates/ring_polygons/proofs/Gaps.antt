@@ -17,7 +17,8 @@ up_is p i = elim (cases_lt i p) [
   | inr h ↦ inr (h, cond-false {A = ℕ} (nat_lt i p) i (i + 1) (le-ltb i p h))
 ]
 
-pub read : {X : Type 0} (xs : List X) (p i : ℕ) (d : X) → p < length xs → get_or (remove xs p) i d ≡ get_or xs (up p i) d
+pub read : {X : Type 0} (xs : List X) (p i : ℕ) (d : X) → p < length xs
+    → get_or (remove xs p) i d ≡ get_or xs (up p i) d
 read xs p i d l = elim (up_is p i) [
   | inl h ↦ get_or-remove_below xs p d i h.0 l ∙ ap (λ (j : ℕ). get_or xs j d) (sym h.1)
   | inr h ↦ get_or-remove_above xs p d i h.0 l ∙ ap (λ (j : ℕ). get_or xs j d) (sym h.1)
@@ -25,8 +26,16 @@ read xs p i d l = elim (up_is p i) [
 
 up_apart : (p i j : ℕ) → up p i ≡ up p j → i ≡ j
 up_apart p i j e = elim (up_is p i) [
-  | inl h ↦ elim (up_is p j) [ inl k ↦ omega (arith, h.0, h.1, k.0, k.1, e) | inr k ↦ omega (arith, h.0, h.1, k.0, k.1, e) ]
-  | inr h ↦ elim (up_is p j) [ inl k ↦ omega (arith, h.0, h.1, k.0, k.1, e) | inr k ↦ omega (arith, h.0, h.1, k.0, k.1, e) ]
+  | inl h ↦ elim (up_is p j) [
+    | inl k ↦ omega (arith, h.0, h.1, k.0, k.1, e)
+    | inr k ↦ omega
+        (arith, h.0, h.1, k.0, k.1, e)
+  ]
+  | inr h ↦ elim (up_is p j) [
+    | inl k ↦ omega (arith, h.0, h.1, k.0, k.1, e)
+    | inr k ↦ omega
+        (arith, h.0, h.1, k.0, k.1, e)
+  ]
 ]
 
 -- places stay one or two
@@ -45,8 +54,10 @@ up_other p i e = elim (up_is p i) [ inl h ↦ omega (arith, h.0, h.1, e) | inr h
 -- another place is moved and found again
 pub up_moved : (p k : ℕ) → k ≢ p → up p (moved_place p k) ≡ k
 up_moved p k ne = elim (cases_lt p k) [
-  | inl l ↦ ap (up p) (cond-true {A = ℕ} (nat_lt p k) (k - 1) k (lt-ltb p k l)) ∙ elim (up_is p (k - 1)) [ inl h ↦ omega (arith, h.0) | inr h ↦ omega (arith, h.1) ]
-  | inr m ↦ ap (up p) (cond-false {A = ℕ} (nat_lt p k) (k - 1) k (le-ltb p k m)) ∙ elim (up_is p k) [ inl h ↦ h.1 | inr h ↦ absurd (ne (omega (arith, h.0, m))) ]
+  | inl l ↦ ap (up p) (cond-true {A = ℕ} (nat_lt p k) (k - 1) k (lt-ltb p k l))
+      ∙ elim (up_is p (k - 1)) [ inl h ↦ omega (arith, h.0) | inr h ↦ omega (arith, h.1) ]
+  | inr m ↦ ap (up p) (cond-false {A = ℕ} (nat_lt p k) (k - 1) k (le-ltb p k m))
+      ∙ elim (up_is p k) [ inl h ↦ h.1 | inr h ↦ absurd (ne (omega (arith, h.0, m))) ]
 ]
 
 pub moved_below : (n p k : ℕ) → p < n → k < n → k ≢ p → moved_place p k < n - 1
@@ -60,7 +71,8 @@ before_is : (n t : ℕ) → t < n → ((t ≡ 0) × (place_before n t + 1 ≡ n)
 before_is n t l = elim (cases_lt 0 t) [
   | inl h ↦
       let back : t + n - 1 ≡ t - 1 + n = omega arith in
-      let e : place_before n t ≡ t - 1 = ap (λ (i : ℕ). i % n) back ∙ add-mod_right (t - 1) n ∙ mod-eq_of_lt (omega arith) in
+      let e : place_before n t ≡ t - 1 = ap (λ (i : ℕ). i % n) back ∙ add-mod_right (t - 1) n
+      ∙ mod-eq_of_lt (omega arith) in
       inr (omega (arith, e))
   | inr h ↦
       let zero : t ≡ 0 = omega arith in
@@ -78,7 +90,8 @@ after_is n t l = elim (cases_lt (t + 1) n) [
 ]
 
 -- except at the corner after the gap, the place before stays the place before
-pub up_before : (n p t : ℕ) → p < n → 2 ≤ n → t < n - 1 → up p t ≢ place_after n p → up p (place_before (n - 1) t) ≡ place_before n (up p t)
+pub up_before : (n p t : ℕ) → p < n → 2 ≤ n → t < n - 1 → up p t ≢ place_after n p
+    → up p (place_before (n - 1) t) ≡ place_before n (up p t)
 up_before n p t l two b ne =
     let there : up p t < n = up_below n p t b in
     let at = up_is p t in
@@ -89,14 +102,16 @@ up_before n p t l two b ne =
     split at to old new other
   where
     split : ((t < p) × (up p t ≡ t)) ⊎ ((p ≤ t) × (up p t ≡ t + 1)) →
-        ((place_before (n - 1) t < p) × (up p (place_before (n - 1) t) ≡ place_before (n - 1) t)) ⊎ ((p ≤ place_before (n - 1) t) × (up p (place_before (n - 1) t) ≡ place_before (n - 1) t + 1)) →
+        ((place_before (n - 1) t < p) × (up p (place_before (n - 1) t) ≡ place_before (n - 1) t))
+        ⊎ ((p ≤ place_before (n - 1) t) × (up p (place_before (n - 1) t) ≡ place_before (n - 1) t + 1)) →
         ((up p t ≡ 0) × (place_before n (up p t) + 1 ≡ n)) ⊎ (place_before n (up p t) + 1 ≡ up p t) →
         ((t ≡ 0) × (place_before (n - 1) t + 1 ≡ n - 1)) ⊎ (place_before (n - 1) t + 1 ≡ t) →
         ((p + 1 ≡ n) × (place_after n p ≡ 0)) ⊎ ((p + 1 < n) × (place_after n p ≡ p + 1)) →
         up p (place_before (n - 1) t) ≡ place_before n (up p t)
     split at to old new other = grind arith
 
-pub up_after : (n p t : ℕ) → p < n → 2 ≤ n → t < n - 1 → up p t ≢ place_before n p → up p (place_after (n - 1) t) ≡ place_after n (up p t)
+pub up_after : (n p t : ℕ) → p < n → 2 ≤ n → t < n - 1 → up p t ≢ place_before n p
+    → up p (place_after (n - 1) t) ≡ place_after n (up p t)
 up_after n p t l two b ne =
     let there : up p t < n = up_below n p t b in
     let at = up_is p t in
@@ -107,7 +122,8 @@ up_after n p t l two b ne =
     split at to old new other
   where
     split : ((t < p) × (up p t ≡ t)) ⊎ ((p ≤ t) × (up p t ≡ t + 1)) →
-        ((place_after (n - 1) t < p) × (up p (place_after (n - 1) t) ≡ place_after (n - 1) t)) ⊎ ((p ≤ place_after (n - 1) t) × (up p (place_after (n - 1) t) ≡ place_after (n - 1) t + 1)) →
+        ((place_after (n - 1) t < p) × (up p (place_after (n - 1) t) ≡ place_after (n - 1) t))
+        ⊎ ((p ≤ place_after (n - 1) t) × (up p (place_after (n - 1) t) ≡ place_after (n - 1) t + 1)) →
         ((up p t + 1 ≡ n) × (place_after n (up p t) ≡ 0)) ⊎ ((up p t + 1 < n) × (place_after n (up p t) ≡ up p t + 1)) →
         ((t + 1 ≡ n - 1) × (place_after (n - 1) t ≡ 0)) ⊎ ((t + 1 < n - 1) × (place_after (n - 1) t ≡ t + 1)) →
         ((p ≡ 0) × (place_before n p + 1 ≡ n)) ⊎ (place_before n p + 1 ≡ p) →

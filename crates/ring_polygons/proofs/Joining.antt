@@ -14,11 +14,14 @@ use Rattle.plane_geom.specs.RingViews.{ring_view, ring_views, IsContour}
 
 -- one more ring is joined
 pub joins_on : (ring next : RingView) (others rest : List RingView) (n p c v : ℕ) (other : RingView) →
-    p ≡ (least_bridge ring others).place → c ≡ (least_bridge ring others).other → v ≡ (least_bridge ring others).vertex →
-    view_at others c ≡ other → next ≡ bridged ring other p v → rest ≡ remove others c → join_others n next rest ≡ join_others (suc n) ring others
+    p ≡ (least_bridge ring others).place → c ≡ (least_bridge ring others).other → v ≡ (least_bridge ring others).vertex
+    →
+    view_at others c ≡ other → next ≡ bridged ring other p v → rest ≡ remove others c
+    → join_others n next rest ≡ join_others (suc n) ring others
 joins_on ring next others rest n p c v other ep ec ev at e r =
     let o : other ≡ view_at others (least_bridge ring others).other = sym at ∙ ap (view_at others) ec in
-    let one : bridged ring other p v ≡ bridged ring (view_at others (least_bridge ring others).other) p v = ap (λ (x : RingView). bridged ring x p v) o in
+    let one : bridged ring other p v ≡ bridged ring (view_at others (least_bridge ring others).other) p v =
+    ap (λ (x : RingView). bridged ring x p v) o in
     let two = ap₂ (λ (i j : ℕ). bridged ring (view_at others (least_bridge ring others).other) i j) ep ev in
     ap₂ (join_others n) (e ∙ one ∙ two) (r ∙ ap (remove others) ec)
 
@@ -40,18 +43,35 @@ join_range xs ys p v a b = join_each IsInRange xs ys p v a b
 -- the views of contours have at least three vertices
 pub contours_views : (rings : List Ring) → AllByRecursion IsContour rings → AllByRecursion IsRingView (ring_views rings)
 contours_views [] h = tt
-contours_views (r ∷ rings) h = (record { same = r.one_id_each; enough = omega (arith, r.one_id_each, h.0.enough) }, contours_views rings h.1)
+contours_views (r ∷ rings) h = (
+  record { same = r.one_id_each; enough = omega (arith, r.one_id_each, h.0.enough) },
+  contours_views rings h.1,
+)
 
-enough_each : (rings : List Ring) → AllByRecursion IsContour rings → 3 * length rings ≤ sum_by (λ (r : Ring). length r.points.items) rings
+enough_each : (rings : List Ring) → AllByRecursion IsContour rings
+    → 3 * length rings ≤ sum_by (λ (r : Ring). length r.points.items) rings
 enough_each [] h = omega arith
-enough_each (r ∷ rings) h = omega (arith, enough_each rings h.1, sum_by-cons (λ (r : Ring). length r.points.items) r rings, h.0.enough)
+enough_each (r ∷ rings) h = omega (
+  arith,
+  enough_each rings h.1,
+  sum_by-cons (λ (r : Ring). length r.points.items) r rings,
+  h.0.enough,
+)
 
-pub few_rings : (rings : List Ring) → All IsContour rings → 3 * length rings ≤ sum_by (λ (r : Ring). length r.points.items) rings
+pub few_rings : (rings : List Ring) → All IsContour rings
+    → 3 * length rings ≤ sum_by (λ (r : Ring). length r.points.items) rings
 few_rings rings h = enough_each rings (recursion_from_All IsContour rings h)
 
-sum_views : (rings : List Ring) → sum_by (λ (r : RingView). length r.ids) (ring_views rings) ≡ sum_by (λ (r : Ring). length r.points.items) rings
+sum_views : (rings : List Ring) → sum_by (λ (r : RingView). length r.ids) (ring_views rings)
+    ≡ sum_by (λ (r : Ring). length r.points.items) rings
 sum_views [] = refl
-sum_views (r ∷ rings) = omega (arith, sum_views rings, r.one_id_each, sum_by-cons (λ (r : Ring). length r.points.items) r rings, sum_by-cons (λ (r : RingView). length r.ids) (ring_view r) (ring_views rings))
+sum_views (r ∷ rings) = omega (
+  arith,
+  sum_views rings,
+  r.one_id_each,
+  sum_by-cons (λ (r : Ring). length r.points.items) r rings,
+  sum_by-cons (λ (r : RingView). length r.ids) (ring_view r) (ring_views rings),
+)
 
 -- the views of contours
 pub views : (rings : List Ring) → All IsContour rings → AllByRecursion IsRingView (ring_views rings)
@@ -61,35 +81,43 @@ pub some_views : (rings : List Ring) → 0 < length rings → 0 < length (ring_v
 some_views rings h = omega (arith, h, length-map rings ring_view)
 
 -- how many vertices the composite has
-pub count_is : (rings : List Ring) → 0 < length rings → All IsContour rings → length (composite (ring_views rings)).points + 2 ≡ sum_by (λ (r : Ring). length r.points.items) rings + 2 * length rings
+pub count_is : (rings : List Ring) → 0 < length rings → All IsContour rings
+    → length (composite (ring_views rings)).points + 2 ≡ sum_by (λ (r : Ring). length r.points.items) rings
+    + 2 * length rings
 count_is rings some h =
     let k = composite_length (ring_views rings) (views rings h) (some_views rings some) in
     omega (arith, k.0, k.1.same, sum_views rings, length-map rings ring_view)
 
 -- what holds of the ids of all rings holds of those of the composite
-get_each : (P : ℕ → Type 0) (others : List RingView) (c : ℕ) → AllByRecursion (λ (l : RingView). All P l.ids) others → All P (view_at others c).ids
+get_each : (P : ℕ → Type 0) (others : List RingView) (c : ℕ) → AllByRecursion (λ (l : RingView). All P l.ids) others
+    → All P (view_at others c).ids
 get_each P [] c h = All-nil P
 get_each P (ring ∷ others) zero h = h.0
 get_each P (ring ∷ others) (suc c) h = get_each P others c h.1
 
-rest_each : (P : ℕ → Type 0) (others : List RingView) (c : ℕ) → AllByRecursion (λ (l : RingView). All P l.ids) others → AllByRecursion (λ (l : RingView). All P l.ids) (remove others c)
+rest_each : (P : ℕ → Type 0) (others : List RingView) (c : ℕ) → AllByRecursion (λ (l : RingView). All P l.ids) others
+    → AllByRecursion (λ (l : RingView). All P l.ids) (remove others c)
 rest_each P [] zero h = h
 rest_each P [] (suc c) h = h
 rest_each P (ring ∷ others) zero h = h.1
 rest_each P (ring ∷ others) (suc c) h = (h.0, rest_each P others c h.1)
 
-pub others_each : (P : ℕ → Type 0) (n : ℕ) (ring : RingView) (others : List RingView) → All P ring.ids → AllByRecursion (λ (l : RingView). All P l.ids) others → All P (join_others n ring others).ids
+pub others_each : (P : ℕ → Type 0) (n : ℕ) (ring : RingView) (others : List RingView) → All P ring.ids
+    → AllByRecursion (λ (l : RingView). All P l.ids) others → All P (join_others n ring others).ids
 others_each P zero ring others a h = a
 others_each P (suc n) ring others a h =
     let b : Bridge = least_bridge ring others in
     others_each P n (bridged ring (view_at others b.other) b.place b.vertex) (remove others b.other)
-    (join_each P ring.ids (view_at others b.other).ids b.place b.vertex a (get_each P others b.other h)) (rest_each P others b.other h)
+    (join_each P ring.ids (view_at others b.other).ids b.place b.vertex a (get_each P others b.other h))
+    (rest_each P others b.other h)
 
-ids_each : (P : ℕ → Type 0) (rings : List Ring) → AllByRecursion (λ (r : Ring). All P r.ids.items) rings → AllByRecursion (λ (l : RingView). All P l.ids) (ring_views rings)
+ids_each : (P : ℕ → Type 0) (rings : List Ring) → AllByRecursion (λ (r : Ring). All P r.ids.items) rings
+    → AllByRecursion (λ (l : RingView). All P l.ids) (ring_views rings)
 ids_each P [] h = tt
 ids_each P (r ∷ rings) h = (h.0, ids_each P rings h.1)
 
-pub composite_each : (P : ℕ → Type 0) (rings : List Ring) → All (λ (r : Ring). All P r.ids.items) rings → All P (composite (ring_views rings)).ids
+pub composite_each : (P : ℕ → Type 0) (rings : List Ring) → All (λ (r : Ring). All P r.ids.items) rings
+    → All P (composite (ring_views rings)).ids
 composite_each P [] h = All-nil P
 composite_each P (r ∷ rings) h =
     let each = recursion_from_All (λ (s : Ring). All P s.ids.items) (r ∷ rings) h in
@@ -99,13 +127,22 @@ composite_each P (r ∷ rings) h =
 pub contour_like : (a b : Ring) → ring_view a ≡ ring_view b → IsContour b → IsContour a
 contour_like a b e k =
     let points : a.points.items ≡ b.points.items = ap (λ (v : RingView). v.points) e in
-    record { enough = omega (arith, ap length points, k.enough); few = omega (arith, ap length points, k.few); in_range = subst (All IsInRange) (sym points) k.in_range }
+    record {
+      enough = omega (arith, ap length points, k.enough);
+      few = omega (arith, ap length points, k.few);
+      in_range = subst (All IsInRange) (sym points) k.in_range;
+    }
 
 -- the first ring joined with all others
-pub joins_all : (rings : List Ring) (first ring : Ring) (others : List Ring) → 0 < length rings → first ≡ get_or rings 0 first → ring_view ring ≡ ring_view first → ring_views others ≡ ring_views (take (length rings - 1) (drop 1 rings)) → join_others (length others) (ring_view ring) (ring_views others) ≡ composite (ring_views rings)
+pub joins_all : (rings : List Ring) (first ring : Ring) (others : List Ring) → 0 < length rings
+    → first ≡ get_or rings 0 first → ring_view ring ≡ ring_view first
+    → ring_views others ≡ ring_views (take (length rings - 1) (drop 1 rings))
+    → join_others (length others) (ring_view ring) (ring_views others) ≡ composite (ring_views rings)
 joins_all [] first ring others l e f g = absurd (omega (arith, l))
 joins_all (r ∷ rings) first ring others l e f g =
-    let rest : ring_views others ≡ ring_views rings = g ∙ ap ring_views (take_all (length (r ∷ rings) - 1) rings (omega arith)) in
+    let rest : ring_views others ≡ ring_views rings = g
+    ∙ ap ring_views (take_all (length (r ∷ rings) - 1) rings (omega arith)) in
     let size : length others ≡ length (ring_views rings) = omega (arith, ap length rest, length-map others ring_view) in
     ap (λ (n : ℕ). join_others n (ring_view ring) (ring_views others)) size
-    ∙ ap₂ (λ (a : RingView) (vs : List RingView). join_others (length (ring_views rings)) a vs) (f ∙ ap ring_view e) rest
+    ∙ ap₂ (λ (a : RingView) (vs : List RingView). join_others (length (ring_views rings)) a vs) (f ∙ ap ring_view e)
+    rest

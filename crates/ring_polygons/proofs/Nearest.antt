@@ -15,13 +15,18 @@ use Rattle.ring_polygons.specs.Nearest.{place_of, IsNearest, near_at}
 use Rattle.ring_polygons.proofs.BridgeLaws.{FirstLeast, first_least_is}
 
 pub least_taken : (f : ℕ → ℕ) (n i : ℕ) → i ≡ first_least f n → f n < f i → n ≡ first_least f (n + 1)
-least_taken f n i e lt = sym (ap (first_least f) (add-one n) ∙ cond-true {A = ℕ} (nat_lt (f n) (f (first_least f n))) n (first_least f n) (lt-ltb (f n) (f (first_least f n)) (omega (arith, lt, ap f e))))
+least_taken f n i e lt = sym (ap (first_least f) (add-one n)
+    ∙ cond-true {A = ℕ} (nat_lt (f n) (f (first_least f n))) n (first_least f n)
+    (lt-ltb (f n) (f (first_least f n)) (omega (arith, lt, ap f e))))
 
 pub least_kept : (f : ℕ → ℕ) (n i : ℕ) → i ≡ first_least f n → f i ≤ f n → i ≡ first_least f (n + 1)
-least_kept f n i e le = e ∙ sym (ap (first_least f) (add-one n) ∙ cond-false {A = ℕ} (nat_lt (f n) (f (first_least f n))) n (first_least f n) (le-ltb (f n) (f (first_least f n)) (omega (arith, le, ap f e))))
+least_kept f n i e le = e ∙ sym (ap (first_least f) (add-one n)
+    ∙ cond-false {A = ℕ} (nat_lt (f n) (f (first_least f n))) n (first_least f n)
+    (le-ltb (f n) (f (first_least f n)) (omega (arith, le, ap f e))))
 
 -- a ring of a list, as contracts see it
-pub view_read : (rings : List Ring) (k : ℕ) (r : Ring) → k < length rings → r ≡ get_or rings k r → view_at (ring_views rings) k ≡ ring_view r
+pub view_read : (rings : List Ring) (k : ℕ) (r : Ring) → k < length rings → r ≡ get_or rings k r
+    → view_at (ring_views rings) k ≡ ring_view r
 view_read rings k r l e = get_or-map ring_view rings k r no_view l ∙ ap ring_view (sym e)
 
 -- the vertex that is nearest to a point, and its squared distance from a place of a ring
@@ -32,9 +37,11 @@ abbrev pub square_from : List Point → List Point → ℕ → ℕ
 square_from ring other p = distance_square (place_of ring p) (place_of other (nearest_to other (place_of ring p)))
 
 -- no point of a list is nearer to a place than all points that an extent of the list encloses
-pub none_nearer : (ring other : List Point) (e : Extent) (p bound : ℕ) → 0 < length other → All (IsEnclosed e) other → ((q : Point) → IsEnclosed e q → bound ≤ distance_square (place_of ring p) q) → bound ≤ square_from ring other p
+pub none_nearer : (ring other : List Point) (e : Extent) (p bound : ℕ) → 0 < length other → All (IsEnclosed e) other
+    → ((q : Point) → IsEnclosed e q → bound ≤ distance_square (place_of ring p) q) → bound ≤ square_from ring other p
 none_nearer ring other e p bound some within at =
-    let there = (first_least_is (λ (v : ℕ). distance_square (place_of ring p) (place_of other v)) (length other) some).below in
+    let there = (first_least_is (λ (v : ℕ). distance_square (place_of ring p) (place_of other v)) (length other)
+    some).below in
     let v : ℕ = nearest_to other (place_of ring p) in
     at (place_of other v) (within v origin there)
 
@@ -45,14 +52,20 @@ near_same : (s s' p p' v v' : ℕ) → s ≡ s' → p ≡ p' → v ≡ v' → ne
 near_same s s' p p' v v' e f g = ap (λ (x : ℕ). near x p v) e ∙ ap (λ (x : ℕ). near s' x v) f ∙ ap (near s' p') g
 
 -- the first least place, with the first least vertex from there, is the least bridge
-pub nearest_is : (ring other : List Point) (s p v : ℕ) → 0 < length ring → 0 < length other → p ≡ first_least (square_from ring other) (length ring) → v ≡ nearest_to other (place_of ring p) → s ≡ square_from ring other p →
+pub nearest_is : (ring other : List Point) (s p v : ℕ) → 0 < length ring → 0 < length other
+    → p ≡ first_least (square_from ring other) (length ring) → v ≡ nearest_to other (place_of ring p)
+    → s ≡ square_from ring other p →
     IsNearest ring other (record { square = s; place = p; vertex = v })
 nearest_is ring other s p v some_ring some_other ep ev es =
     let f : ℕ → ℕ = square_from ring other in
     let i : ℕ = first_least f (length ring) in
     let by_place : FirstLeast f (length ring) i = first_least_is f (length ring) some_ring in
-    let by_vertex : (q : ℕ) → FirstLeast (λ (w : ℕ). distance_square (place_of ring q) (place_of other w)) (length other) (nearest_to other (place_of ring q)) = λ q. first_least_is (λ (w : ℕ). distance_square (place_of ring q) (place_of other w)) (length other) some_other in
-    subst (IsNearest ring other) (sym (near_same s (f i) p i v (nearest_to other (place_of ring i)) (es ∙ ap f ep) ep (ev ∙ ap (λ (q : ℕ). nearest_to other (place_of ring q)) ep)))
+    let by_vertex : (q : ℕ) → FirstLeast (λ (w : ℕ). distance_square (place_of ring q) (place_of other w))
+    (length other) (nearest_to other (place_of ring q)) =
+    λ q. first_least_is (λ (w : ℕ). distance_square (place_of ring q) (place_of other w)) (length other) some_other
+    in
+    subst (IsNearest ring other) (sym (near_same s (f i) p i v (nearest_to other (place_of ring i)) (es ∙ ap f ep) ep
+    (ev ∙ ap (λ (q : ℕ). nearest_to other (place_of ring q)) ep)))
     (record {
       place = by_place.below;
       vertex = (by_vertex i).below;
@@ -74,17 +87,31 @@ pub record LeastSoFar (nears : List Near) (n c : ℕ) : Type 0 where
   pub before : c ≤ n
   pub there : c < length nears
   pub least : (k : ℕ) → k < n → (near_at nears c).square ≤ (near_at nears k).square
-  pub place : (k : ℕ) → k < n → (near_at nears k).square ≡ (near_at nears c).square → (near_at nears c).place ≤ (near_at nears k).place
-  pub first : (k : ℕ) → k < n → (near_at nears k).square ≡ (near_at nears c).square → (near_at nears k).place ≡ (near_at nears c).place → c ≤ k
+  pub place : (k : ℕ) → k < n → (near_at nears k).square ≡ (near_at nears c).square
+      → (near_at nears c).place ≤ (near_at nears k).place
+  pub first : (k : ℕ) → k < n → (near_at nears k).square ≡ (near_at nears c).square
+      → (near_at nears k).place ≡ (near_at nears c).place → c ≤ k
 
-pub first_kept : (nears : List Near) (n c : ℕ) → LeastSoFar nears n c → (near_at nears c).square ≤ (near_at nears n).square → ((near_at nears n).square ≡ (near_at nears c).square → (near_at nears c).place ≤ (near_at nears n).place) → LeastSoFar nears (n + 1) c
+pub first_kept : (nears : List Near) (n c : ℕ) → LeastSoFar nears n c
+    → (near_at nears c).square ≤ (near_at nears n).square
+    → ((near_at nears n).square ≡ (near_at nears c).square → (near_at nears c).place ≤ (near_at nears n).place)
+    → LeastSoFar nears (n + 1) c
 first_kept nears n c h le tie = record {
   before = omega (arith, h.before);
   there = h.there;
-  least = λ k b. elim (cases_lt k n) [ inl lt ↦ h.least k lt | inr ge ↦ omega (arith, ap (λ (i : ℕ). (near_at nears i).square) (let z : k ≡ n = omega arith in z)) ];
+  least = λ k b. elim (cases_lt k n) [
+    | inl lt ↦ h.least k lt
+    | inr ge ↦ omega
+        (arith, ap (λ (i : ℕ). (near_at nears i).square) (let z : k ≡ n = omega arith in z))
+  ];
   place = λ k b e. elim (cases_lt k n) [
     | inl lt ↦ h.place k lt e
-    | inr ge ↦ (let z : k ≡ n = omega arith in omega (arith, tie (sym (ap (λ (i : ℕ). (near_at nears i).square) z) ∙ e), ap (λ (i : ℕ). (near_at nears i).place) z))
+    | inr ge ↦ (let z : k ≡ n = omega arith in
+        omega (
+          arith,
+          tie (sym (ap (λ (i : ℕ). (near_at nears i).square) z) ∙ e),
+          ap (λ (i : ℕ). (near_at nears i).place) z,
+        ))
   ];
   first = λ k b e f. elim (cases_lt k n) [ inl lt ↦ h.first k lt e f | inr ge ↦ omega (arith, h.before) ];
 }

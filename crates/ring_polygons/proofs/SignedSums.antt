@@ -31,14 +31,23 @@ parts w h a b = ap (λ (z : ℤ). w a b +ℤ pos (above z)) (h a b) ∙ above_bo
 abbrev pub ring_signed : {X : Type 0} → (X → X → ℤ) → List X → ℤ
 ring_signed w ring = signed_sum (λ e. w e.0 e.1) (ring_edges ring)
 
-pub edges_signed : {X : Type 0} (w : X → X → ℤ) → Turns w → (es : List (X × X)) → signed_sum (λ e. w e.0 e.1) es +ℤ pos (weigh (back (part w)) es) ≡ pos (weigh (part w) es)
+pub edges_signed : {X : Type 0} (w : X → X → ℤ) → Turns w → (es : List (X × X))
+    → signed_sum (λ e. w e.0 e.1) es +ℤ pos (weigh (back (part w)) es) ≡ pos (weigh (part w) es)
 edges_signed w h [] = refl
 edges_signed w h (e ∷ es) = omega (arith, ints, parts w h e.0 e.1, edges_signed w h es)
 
-pub rings_signed : {X : Type 0} (w : X → X → ℤ) → Turns w → (rings : List (List X)) → signed_sum (ring_signed w) rings +ℤ pos (total (back (part w)) rings) ≡ pos (total (part w) rings)
+pub rings_signed : {X : Type 0} (w : X → X → ℤ) → Turns w → (rings : List (List X))
+    → signed_sum (ring_signed w) rings +ℤ pos (total (back (part w)) rings) ≡ pos (total (part w) rings)
 rings_signed w h [] = refl
 rings_signed w h (ring ∷ rings) = omega (arith, ints, edges_signed w h (ring_edges ring), rings_signed w h rings)
 
 -- over the triangles of a ring it is that of the ring
-pub cut_signed : {X : Type 0} (w : X → X → ℤ) → Turns w → (d : X) (places : List ℕ) (ring : List X) → AreCorners (length ring) places → signed_sum (ring_signed w) (cut d places ring) ≡ ring_signed w ring
-cut_signed w h d places ring c = omega (arith, ints, rings_signed w h (cut d places ring), edges_signed w h (ring_edges ring), cut_total (part w) d places ring c)
+pub cut_signed : {X : Type 0} (w : X → X → ℤ) → Turns w → (d : X) (places : List ℕ) (ring : List X)
+    → AreCorners (length ring) places → signed_sum (ring_signed w) (cut d places ring) ≡ ring_signed w ring
+cut_signed w h d places ring c = omega (
+  arith,
+  ints,
+  rings_signed w h (cut d places ring),
+  edges_signed w h (ring_edges ring),
+  cut_total (part w) d places ring c,
+)

@@ -4,7 +4,8 @@ use Rattle.std.proofs.lemmas.Int.{ints}
 use Rattle.plane_geom.proofs.Signed.{passed_i64}
 use Rattle.ring_polygons.specs.Caps.{sign}
 
-pub kept : (left : Bool) (r x : ℤ) → left ≡ true → unsigned_abs r ≤ 8000000000000 → r ≡ x → to_z w64 (of_z w64 r) ≡ sign left *ℤ x
+pub kept : (left : Bool) (r x : ℤ) → left ≡ true → unsigned_abs r ≤ 8000000000000 → r ≡ x
+    → to_z w64 (of_z w64 r) ≡ sign left *ℤ x
 kept left r x h fits e =
     let one : x ≡ pos 1 *ℤ x = omega (arith, ints) in
     passed_i64 r fits ∙ e ∙ one ∙ ap (λ (b : Bool). sign b *ℤ x) (sym h)
@@ -12,8 +13,10 @@ kept left r x h fits e =
 negated : (x : ℤ) → pos 0 -ℤ x ≡ sign false *ℤ x
 negated x = omega (arith, ints)
 
-pub turned : (left : Bool) (r x : ℤ) → left ≡ false → unsigned_abs r ≤ 8000000000000 → r ≡ x → to_z w64 (of_z w64 (pos 0 -ℤ to_z w64 (of_z w64 r))) ≡ sign left *ℤ x
+pub turned : (left : Bool) (r x : ℤ) → left ≡ false → unsigned_abs r ≤ 8000000000000 → r ≡ x
+    → to_z w64 (of_z w64 (pos 0 -ℤ to_z w64 (of_z w64 r))) ≡ sign left *ℤ x
 turned left r x h fits e =
     let inner : to_z w64 (of_z w64 r) ≡ r = passed_i64 r fits in
     let small : unsigned_abs (pos 0 -ℤ r) ≤ 8000000000000 = omega (arith, ints) in
-    ap (λ (z : ℤ). to_z w64 (of_z w64 (pos 0 -ℤ z))) inner ∙ passed_i64 (pos 0 -ℤ r) small ∙ ap (λ (z : ℤ). pos 0 -ℤ z) e ∙ negated x ∙ ap (λ (b : Bool). sign b *ℤ x) (sym h)
+    ap (λ (z : ℤ). to_z w64 (of_z w64 (pos 0 -ℤ z))) inner ∙ passed_i64 (pos 0 -ℤ r) small
+    ∙ ap (λ (z : ℤ). pos 0 -ℤ z) e ∙ negated x ∙ ap (λ (b : Bool). sign b *ℤ x) (sym h)

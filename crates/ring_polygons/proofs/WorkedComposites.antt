@@ -14,10 +14,16 @@ abbrev at : ℤ → ℤ → Point
 at x y = record { x = x; y = y; z = pos 10 }
 
 abbrev middle : RingView
-middle = record { points = at (pos 0) (pos 0) ∷ at (pos 10) (pos 0) ∷ at (pos 10) (pos 10) ∷ at (pos 0) (pos 10) ∷ []; ids = 4 ∷ 5 ∷ 6 ∷ 7 ∷ [] }
+middle = record {
+  points = at (pos 0) (pos 0) ∷ at (pos 10) (pos 0) ∷ at (pos 10) (pos 10) ∷ at (pos 0) (pos 10) ∷ [];
+  ids = 4 ∷ 5 ∷ 6 ∷ 7 ∷ [];
+}
 
 abbrev right : RingView
-right = record { points = at (pos 20) (pos 0) ∷ at (pos 30) (pos 0) ∷ at (pos 30) (pos 10) ∷ at (pos 20) (pos 10) ∷ []; ids = 8 ∷ 9 ∷ 10 ∷ 11 ∷ [] }
+right = record {
+  points = at (pos 20) (pos 0) ∷ at (pos 30) (pos 0) ∷ at (pos 30) (pos 10) ∷ at (pos 20) (pos 10) ∷ [];
+  ids = 8 ∷ 9 ∷ 10 ∷ 11 ∷ [];
+}
 
 -- a triangle with its ids, and one on either side of it
 abbrev triangle : ℤ → ℤ → ℤ → List ℕ → RingView
@@ -33,26 +39,33 @@ abbrev on_the_right : RingView
 on_the_right = triangle (pos 20) (pos 30) (pos 25) (6 ∷ 7 ∷ 8 ∷ [])
 
 -- of equal least numbers, the first one
-first : (first_least (slice_index (5 ∷ 3 ∷ 9 ∷ 3 ∷ [])) 4 ≡ 1) × (first_least (slice_index (5 ∷ [])) 1 ≡ 0) × (first_least (slice_index (5 ∷ 3 ∷ 2 ∷ [])) 3 ≡ 2)
+first : (first_least (slice_index (5 ∷ 3 ∷ 9 ∷ 3 ∷ [])) 4 ≡ 1) × (first_least (slice_index (5 ∷ [])) 1 ≡ 0)
+    × (first_least (slice_index (5 ∷ 3 ∷ 2 ∷ [])) 3 ≡ 2)
 first = (refl, refl, refl)
 
 -- all three coordinates count
-lengths : square_of (record { points = record { x = pos 0; y = pos 0; z = pos 0 } ∷ []; ids = 0 ∷ [] }) (right ∷ record { points = at (pos 1) (pos 1) ∷ record { x = pos 3; y = pos 4; z = pos 12 } ∷ []; ids = 0 ∷ 1 ∷ [] } ∷ []) 0 1 1 ≡ 169
+lengths : square_of (record { points = record { x = pos 0; y = pos 0; z = pos 0 } ∷ []; ids = 0 ∷ [] })
+    (right ∷ record { points = at (pos 1) (pos 1) ∷ record { x = pos 3; y = pos 4; z = pos 12 } ∷ []; ids = 0 ∷ 1 ∷ [] }
+    ∷ []) 0 1 1 ≡ 169
 unfolding distance_square square
 lengths = refl
 
 -- the vertex of the square on the right that is nearest to a corner of the other
-vertices : (nearest_vertex (at (pos 10) (pos 10)) right ≡ 3) × (ring_square (at (pos 10) (pos 10)) right ≡ 100) × (nearest_vertex (at (pos 10) (pos 5)) right ≡ 0)
+vertices : (nearest_vertex (at (pos 10) (pos 10)) right ≡ 3) × (ring_square (at (pos 10) (pos 10)) right ≡ 100)
+    × (nearest_vertex (at (pos 10) (pos 5)) right ≡ 0)
 unfolding distance_square square
 vertices = (refl, refl, refl)
 
 -- of two equal rings, the first one
-rings : (nearest_ring (at (pos 10) (pos 0)) (on_the_left ∷ on_the_right ∷ []) ≡ 1) × (nearest_ring (at (pos 0) (pos 0)) (on_the_left ∷ on_the_right ∷ []) ≡ 0) × (nearest_ring (at (pos 0) (pos 0)) (on_the_right ∷ on_the_right ∷ []) ≡ 0)
+rings : (nearest_ring (at (pos 10) (pos 0)) (on_the_left ∷ on_the_right ∷ []) ≡ 1)
+    × (nearest_ring (at (pos 0) (pos 0)) (on_the_left ∷ on_the_right ∷ []) ≡ 0)
+    × (nearest_ring (at (pos 0) (pos 0)) (on_the_right ∷ on_the_right ∷ []) ≡ 0)
 unfolding distance_square square
 rings = (refl, refl, refl)
 
 -- two bridges of length 10 lead from the square to the one on its right: the one with the first place is least
-bridge : (bridge_place middle (right ∷ []) ≡ 1) × (least_bridge middle (right ∷ []) ≡ record { place = 1; other = 0; vertex = 0 })
+bridge : (bridge_place middle (right ∷ []) ≡ 1)
+    × (least_bridge middle (right ∷ []) ≡ record { place = 1; other = 0; vertex = 0 })
 unfolding least_bridge distance_square square
 bridge = (refl, refl)
 
@@ -60,7 +73,8 @@ bridge = (refl, refl)
 ways : join {X = ℕ} (0 ∷ 1 ∷ 2 ∷ []) (7 ∷ 8 ∷ 9 ∷ []) 1 2 ≡ 0 ∷ 1 ∷ 9 ∷ 7 ∷ 8 ∷ 9 ∷ 1 ∷ 2 ∷ []
 ways = refl
 
-both : (bridged between on_the_right 1 0).points ≡ at (pos 0) (pos 0) ∷ at (pos 10) (pos 0) ∷ at (pos 20) (pos 0) ∷ at (pos 30) (pos 0) ∷ at (pos 25) (pos 8) ∷ at (pos 20) (pos 0) ∷ at (pos 10) (pos 0) ∷ at (pos 5) (pos 8) ∷ []
+both : (bridged between on_the_right 1 0).points ≡ at (pos 0) (pos 0) ∷ at (pos 10) (pos 0) ∷ at (pos 20) (pos 0)
+    ∷ at (pos 30) (pos 0) ∷ at (pos 25) (pos 8) ∷ at (pos 20) (pos 0) ∷ at (pos 10) (pos 0) ∷ at (pos 5) (pos 8) ∷ []
 both = refl
 
 none : composite [] ≡ no_view
@@ -74,7 +88,8 @@ unfolding least_bridge distance_square square
 two = refl
 
 -- the ring on the left is joined first, by the bridge from place 0, and then the other one
-three : (composite (between ∷ on_the_right ∷ on_the_left ∷ [])).ids ≡ 0 ∷ 4 ∷ 5 ∷ 3 ∷ 4 ∷ 0 ∷ 1 ∷ 6 ∷ 7 ∷ 8 ∷ 6 ∷ 1 ∷ 2 ∷ []
+three : (composite (between ∷ on_the_right ∷ on_the_left ∷ [])).ids ≡ 0 ∷ 4 ∷ 5 ∷ 3 ∷ 4 ∷ 0 ∷ 1 ∷ 6 ∷ 7 ∷ 8 ∷ 6 ∷ 1 ∷ 2
+    ∷ []
 unfolding least_bridge distance_square square
 three = refl
 
@@ -82,5 +97,6 @@ edges : ids_of (between ∷ on_the_right ∷ []) ≡ (0 ∷ 1 ∷ 2 ∷ []) ∷ 
 edges = refl
 
 -- 4,096 vertices are not too long, and 4,097 are
-long : (IsCause 4096 NoMemory) × (IsCause 4097 (TooLong 4097)) × (IsCause 4096 (TooLong 4096) → ⊥) × (IsCause 4097 (TooLong 4096) → ⊥) × (IsCause 4097 NoMemory → ⊥)
+long : (IsCause 4096 NoMemory) × (IsCause 4097 (TooLong 4097)) × (IsCause 4096 (TooLong 4096) → ⊥)
+    × (IsCause 4097 (TooLong 4096) → ⊥) × (IsCause 4097 NoMemory → ⊥)
 long = (omega arith, (refl, omega arith), λ h. omega (arith, h.1), λ h. omega (arith, h.0), λ h. omega (arith, h))

@@ -9,13 +9,26 @@ use Rattle.round_sweeps.proofs.ColumnLaws.{written, kept}
 use Rattle.round_sweeps.proofs.RoundLaws.{row_low, row_high, row_higher}
 
 -- no number of a potential is too small
-pub number_least : (m : ℕ) (s : ℤ) (i : ℕ) (column : List ℤ) → i < m → AreRowsBounded m column → pos 0 ≤ℤ s → (k : ℕ) → k < 2 * m → neg_ℤ start_limit ≤ℤ numbers_from m s i column k
+pub number_least : (m : ℕ) (s : ℤ) (i : ℕ) (column : List ℤ) → i < m → AreRowsBounded m column → pos 0 ≤ℤ s → (k : ℕ)
+    → k < 2 * m → neg_ℤ start_limit ≤ℤ numbers_from m s i column k
 number_least m s i column lt b least k le =
     elim (cases_lt (i + k) m) [
       | inl low ↦ omega (arith, ints, row_low m s (at_row column) (i + k) low, b.least (i + k) low)
       | inr more ↦ elim (cases_lt (i + k) (2 * m)) [
-        | inl high ↦ omega (arith, ints, row_high m s (at_row column) (i + k) more high, b.least (i + k - m) (omega (arith, high, more)), least)
-        | inr higher ↦ omega (arith, ints, row_higher m s (at_row column) (i + k) higher (omega (arith, lt, le)), b.least (i + k - 2 * m) (omega (arith, lt, le, higher)), least)
+        | inl high ↦ omega (
+          arith,
+          ints,
+          row_high m s (at_row column) (i + k) more high,
+          b.least (i + k - m) (omega (arith, high, more)),
+          least,
+        )
+        | inr higher ↦ omega (
+          arith,
+          ints,
+          row_higher m s (at_row column) (i + k) higher (omega (arith, lt, le)),
+          b.least (i + k - 2 * m) (omega (arith, lt, le, higher)),
+          least,
+        )
       ]
     ]
 
@@ -27,7 +40,8 @@ pub record AreFit (m : ℕ) (limit : ℤ) (phi downs rights : ℕ → ℤ) : Typ
   pub rights_least : (j : ℕ) → j ≤ m → pos 0 ≤ℤ rights j
 
 -- rows k to m are done; `below` stands in the last one of them
-pub record IsBackUntil (m k : ℕ) (limit : ℤ) (phi downs rights : ℕ → ℤ) (old new : List ℤ) (ways : List Bool) (below : ℤ) (first last : ℕ) : Type 0 where
+pub record IsBackUntil (m k : ℕ) (limit : ℤ) (phi downs rights : ℕ → ℤ) (old new : List ℤ) (ways : List Bool)
+    (below : ℤ) (first last : ℕ) : Type 0 where
   pub back : IsBackTo m k limit phi downs rights old new ways
   pub sums : AreSumsOf m new
   pub below_is : k ≤ m → below ≡ at_row new k
@@ -37,12 +51,23 @@ pub record IsBackUntil (m k : ℕ) (limit : ℤ) (phi downs rights : ℕ → ℤ
   pub last_in : last ≤ m
   pub outside : (j : ℕ) → k ≤ j → j ≤ m → (j < first) ⊎ (last < j) → at_row new j ≡ gone
 
-pub back_none : (m : ℕ) (limit : ℤ) (phi downs rights : ℕ → ℤ) (old : List ℤ) (ways : List Bool) (first last : ℕ) → AreFit m limit phi downs rights → AreSumsOf m old → IsWindow m first last old → IsBackUntil m (last + 1) limit phi downs rights old old ways gone (m + 1) 0
+pub back_none : (m : ℕ) (limit : ℤ) (phi downs rights : ℕ → ℤ) (old : List ℤ) (ways : List Bool) (first last : ℕ)
+    → AreFit m limit phi downs rights → AreSumsOf m old → IsWindow m first last old
+    → IsBackUntil m (last + 1) limit phi downs rights old old ways gone (m + 1) 0
 back_none m limit phi downs rights old ways first last f s w = record {
   back = record {
     rest = λ j lt. refl;
-    down = λ j le lt p. absurd (omega (arith, ints, p, f.small, f.numbers j (omega (arith, lt)), f.downs_least j lt, after (j + 1) (omega (arith, le)) (omega (arith, lt))));
-    right = λ j le in' p. absurd (omega (arith, ints, p, f.small, f.numbers j in', f.rights_least j in', after j le in'));
+    down = λ j le lt p. absurd (omega (
+      arith,
+      ints,
+      p,
+      f.small,
+      f.numbers j (omega (arith, lt)),
+      f.downs_least j lt,
+      after (j + 1) (omega (arith, le)) (omega (arith, lt)),
+    ));
+    right = λ j le in' p. absurd (omega
+        (arith, ints, p, f.small, f.numbers j in', f.rights_least j in', after j le in'));
     goes_down = λ j le in' p e. absurd (omega (arith, ints, p, f.small, f.numbers j in', after j le in'));
     goes_right = λ j le in' p e. absurd (omega (arith, ints, p, f.small, f.numbers j in', after j le in'));
   };
@@ -58,27 +83,34 @@ back_none m limit phi downs rights old ways first last f s w = record {
     after : (j : ℕ) → last + 1 ≤ j → j ≤ m → at_row old j ≡ gone
     after j le in' = w.outside j in' (inr (omega (arith, le)))
 
-pub back_more : (m row : ℕ) (limit : ℤ) (phi downs rights : ℕ → ℤ) (old new : List ℤ) (ways : List Bool) (below sum : ℤ) (way : Bool) (first last first' last' : ℕ) → IsBackUntil m (row + 1) limit phi downs rights old new ways below first last → row ≤ m → length ways ≡ m + 1
-    → (row < m → (phi row +ℤ (downs row +ℤ below)) ≤ℤ limit → sum ≤ℤ (downs row +ℤ below)) → ((phi row +ℤ (rights row +ℤ at_row new row)) ≤ℤ limit → sum ≤ℤ (rights row +ℤ at_row new row))
-    → ((phi row +ℤ sum) ≤ℤ limit → way ≡ true → (row < m) × (sum ≡ downs row +ℤ below)) → ((phi row +ℤ sum) ≤ℤ limit → way ≡ false → (sum ≡ rights row +ℤ at_row new row) × (row < m → sum <ℤ (downs row +ℤ below)))
-    → pos 0 ≤ℤ sum → sum ≤ℤ gone → last' ≤ m → ((row < first') ⊎ (last' < row) → gone ≤ℤ sum) → ((k : ℕ) → row < k → k ≤ m → (k < first') ⊎ (last' < k) → (k < first) ⊎ (last < k))
+pub back_more : (m row : ℕ) (limit : ℤ) (phi downs rights : ℕ → ℤ) (old new : List ℤ) (ways : List Bool) (below sum : ℤ)
+    (way : Bool) (first last first' last' : ℕ)
+    → IsBackUntil m (row + 1) limit phi downs rights old new ways below first last → row ≤ m → length ways ≡ m + 1
+    → (row < m → (phi row +ℤ (downs row +ℤ below)) ≤ℤ limit → sum ≤ℤ (downs row +ℤ below))
+    → ((phi row +ℤ (rights row +ℤ at_row new row)) ≤ℤ limit → sum ≤ℤ (rights row +ℤ at_row new row))
+    → ((phi row +ℤ sum) ≤ℤ limit → way ≡ true → (row < m) × (sum ≡ downs row +ℤ below))
+    → ((phi row +ℤ sum) ≤ℤ limit → way ≡ false → (sum ≡ rights row +ℤ at_row new row)
+    × (row < m → sum <ℤ (downs row +ℤ below)))
+    → pos 0 ≤ℤ sum → sum ≤ℤ gone → last' ≤ m → ((row < first') ⊎ (last' < row) → gone ≤ℤ sum)
+    → ((k : ℕ) → row < k → k ≤ m → (k < first') ⊎ (last' < k) → (k < first) ⊎ (last < k))
     → IsBackUntil m row limit phi downs rights old (set new row sum) (set ways row way) sum first' last'
-back_more m row limit phi downs rights old new ways below sum way first last first' last' h lt count by_v by_h goes_v goes_h least most last_in here after = record {
-  back = record {
-    rest = λ j less. kept new row j sum (omega (arith, less)) ∙ h.back.rest j (omega (arith, less));
-    down = down;
-    right = right;
-    goes_down = goes_down;
-    goes_right = goes_right;
-  };
-  sums = record { count = length-set new row sum ∙ h.sums.count; least = sums_least; most = sums_most };
-  below_is = λ le. sym (written new row row sum within refl);
-  below_gone = λ e. absurd (omega (arith, e, lt));
-  below_least = least;
-  below_most = most;
-  last_in = last_in;
-  outside = outside;
-}
+back_more m row limit phi downs rights old new ways below sum way first last first' last' h lt count by_v by_h goes_v
+    goes_h least most last_in here after = record {
+      back = record {
+        rest = λ j less. kept new row j sum (omega (arith, less)) ∙ h.back.rest j (omega (arith, less));
+        down = down;
+        right = right;
+        goes_down = goes_down;
+        goes_right = goes_right;
+      };
+      sums = record { count = length-set new row sum ∙ h.sums.count; least = sums_least; most = sums_most };
+      below_is = λ le. sym (written new row row sum within refl);
+      below_gone = λ e. absurd (omega (arith, e, lt));
+      below_least = least;
+      below_most = most;
+      last_in = last_in;
+      outside = outside;
+    }
   where
     within : row < length new
     within = omega (arith, h.sums.count, lt)
@@ -112,56 +144,125 @@ back_more m row limit phi downs rights old new ways below sum way first last fir
 
     outside : (j : ℕ) → row ≤ j → j ≤ m → (j < first') ⊎ (last' < j) → at_row (set new row sum) j ≡ gone
     outside j le in' o = elim (cases_eq j row) [
-      | inl d ↦ omega (arith, ints, written new row j sum within d, most, here (subst (λ (x : ℕ). (x < first') ⊎ (last' < x)) d o))
+      | inl d ↦ omega (
+        arith,
+        ints,
+        written new row j sum within d,
+        most,
+        here (subst (λ (x : ℕ). (x < first') ⊎ (last' < x)) d o),
+      )
       | inr ne ↦ kept new row j sum ne ∙ h.outside j (omega (arith, le, ne)) in' (after j (omega (arith, le, ne)) in' o)
     ]
 
-    down : (j : ℕ) → row ≤ j → j < m → (phi j +ℤ (downs j +ℤ at_row (set new row sum) (j + 1))) ≤ℤ limit → at_row (set new row sum) j ≤ℤ (downs j +ℤ at_row (set new row sum) (j + 1))
+    down : (j : ℕ) → row ≤ j → j < m → (phi j +ℤ (downs j +ℤ at_row (set new row sum) (j + 1))) ≤ℤ limit
+        → at_row (set new row sum) j ≤ℤ (downs j +ℤ at_row (set new row sum) (j + 1))
     down j le less p =
         let next = kept new row (j + 1) sum (omega (arith, le)) in
         elim (cases_eq j row) [
-          | inl d ↦ omega (arith, ints, written new row j sum within d, next, next_is j d less, ap downs d, by_v (omega (arith, d, less)) (omega (arith, ints, p, next, next_is j d less, ap downs d, ap phi d)))
-          | inr ne ↦ omega (arith, ints, kept new row j sum ne, next, h.back.down j (omega (arith, le, ne)) less (omega (arith, ints, p, next)))
+          | inl d ↦ omega (
+            arith,
+            ints,
+            written new row j sum within d,
+            next,
+            next_is j d less,
+            ap downs d,
+            by_v (omega (arith, d, less)) (omega (arith, ints, p, next, next_is j d less, ap downs d, ap phi d)),
+          )
+          | inr ne ↦ omega (
+            arith,
+            ints,
+            kept new row j sum ne,
+            next,
+            h.back.down j (omega (arith, le, ne)) less (omega (arith, ints, p, next)),
+          )
         ]
 
-    right : (j : ℕ) → row ≤ j → j ≤ m → (phi j +ℤ (rights j +ℤ at_row old j)) ≤ℤ limit → at_row (set new row sum) j ≤ℤ (rights j +ℤ at_row old j)
+    right : (j : ℕ) → row ≤ j → j ≤ m → (phi j +ℤ (rights j +ℤ at_row old j)) ≤ℤ limit
+        → at_row (set new row sum) j ≤ℤ (rights j +ℤ at_row old j)
     right j le in' p =
         elim (cases_eq j row) [
-          | inl d ↦ omega (arith, ints, written new row j sum within d, old_here, ap rights d, ap (at_row old) d, by_h (omega (arith, ints, p, old_here, ap rights d, ap (at_row old) d, ap phi d)))
+          | inl d ↦ omega (
+            arith,
+            ints,
+            written new row j sum within d,
+            old_here,
+            ap rights d,
+            ap (at_row old) d,
+            by_h (omega (arith, ints, p, old_here, ap rights d, ap (at_row old) d, ap phi d)),
+          )
           | inr ne ↦ omega (arith, ints, kept new row j sum ne, h.back.right j (omega (arith, le, ne)) in' p)
         ]
 
-    goes_down : (j : ℕ) → row ≤ j → j ≤ m → (phi j +ℤ at_row (set new row sum) j) ≤ℤ limit → way_of (set ways row way) j ≡ true → (j < m) × (at_row (set new row sum) j ≡ downs j +ℤ at_row (set new row sum) (j + 1))
+    goes_down : (j : ℕ) → row ≤ j → j ≤ m → (phi j +ℤ at_row (set new row sum) j) ≤ℤ limit
+        → way_of (set ways row way) j ≡ true → (j < m)
+        × (at_row (set new row sum) j ≡ downs j +ℤ at_row (set new row sum) (j + 1))
     goes_down j le in' p e =
         let next = kept new row (j + 1) sum (omega (arith, le)) in
         elim (cases_eq j row) [
-          | inl d ↦ (let g = goes_v (omega (arith, ints, p, written new row j sum within d, ap phi d)) (sym (way_here j d) ∙ e) in
-              (omega (arith, d, g.0), omega (arith, ints, written new row j sum within d, next, next_is j d (omega (arith, d, g.0)), ap downs d, g.1)))
-          | inr ne ↦ (let g = h.back.goes_down j (omega (arith, le, ne)) in' (omega (arith, ints, p, kept new row j sum ne)) (sym (way_kept j ne) ∙ e) in
+          | inl d ↦ (let g = goes_v (omega (arith, ints, p, written new row j sum within d, ap phi d))
+              (sym (way_here j d) ∙ e) in (
+                omega (arith, d, g.0),
+                omega (
+                  arith,
+                  ints,
+                  written new row j sum within d,
+                  next,
+                  next_is j d (omega (arith, d, g.0)),
+                  ap downs d,
+                  g.1,
+                ),
+              ))
+          | inr ne ↦ (let g = h.back.goes_down j (omega (arith, le, ne)) in'
+              (omega (arith, ints, p, kept new row j sum ne)) (sym (way_kept j ne) ∙ e) in
               (g.0, omega (arith, ints, kept new row j sum ne, next, g.1)))
         ]
 
-    goes_right : (j : ℕ) → row ≤ j → j ≤ m → (phi j +ℤ at_row (set new row sum) j) ≤ℤ limit → way_of (set ways row way) j ≡ false → (at_row (set new row sum) j ≡ rights j +ℤ at_row old j) × (j < m → at_row (set new row sum) j <ℤ (downs j +ℤ at_row (set new row sum) (j + 1)))
+    goes_right : (j : ℕ) → row ≤ j → j ≤ m → (phi j +ℤ at_row (set new row sum) j) ≤ℤ limit
+        → way_of (set ways row way) j ≡ false → (at_row (set new row sum) j ≡ rights j +ℤ at_row old j)
+        × (j < m → at_row (set new row sum) j <ℤ (downs j +ℤ at_row (set new row sum) (j + 1)))
     goes_right j le in' p e =
         let next = kept new row (j + 1) sum (omega (arith, le)) in
         elim (cases_eq j row) [
-          | inl d ↦ (let g = goes_h (omega (arith, ints, p, written new row j sum within d, ap phi d)) (sym (way_here j d) ∙ e) in (
-            omega (arith, ints, written new row j sum within d, old_here, ap (at_row old) d, ap rights d, g.0),
-            λ less. omega (arith, ints, written new row j sum within d, next, next_is j d less, ap downs d, g.1 (omega (arith, d, less))),
-          ))
-          | inr ne ↦ (let g = h.back.goes_right j (omega (arith, le, ne)) in' (omega (arith, ints, p, kept new row j sum ne)) (sym (way_kept j ne) ∙ e) in
-              (omega (arith, ints, kept new row j sum ne, g.0), λ less. omega (arith, ints, kept new row j sum ne, next, g.1 less)))
+          | inl d ↦ (let g = goes_h (omega (arith, ints, p, written new row j sum within d, ap phi d))
+              (sym (way_here j d) ∙ e) in (
+                omega (arith, ints, written new row j sum within d, old_here, ap (at_row old) d, ap rights d, g.0),
+                λ less. omega (
+                  arith,
+                  ints,
+                  written new row j sum within d,
+                  next,
+                  next_is j d less,
+                  ap downs d,
+                  g.1 (omega (arith, d, less)),
+                ),
+              ))
+          | inr ne ↦ (let g = h.back.goes_right j (omega (arith, le, ne)) in'
+              (omega (arith, ints, p, kept new row j sum ne)) (sym (way_kept j ne) ∙ e) in (
+                omega (arith, ints, kept new row j sum ne, g.0),
+                λ less. omega (arith, ints, kept new row j sum ne, next, g.1 less),
+              ))
         ]
 
 -- where nothing is left above, the column is done
-pub back_stopped : (m row : ℕ) (limit : ℤ) (phi downs rights : ℕ → ℤ) (old new : List ℤ) (ways : List Bool) (below : ℤ) (first last first0 last0 : ℕ) → AreFit m limit phi downs rights → IsWindow m first0 last0 old → IsBackUntil m (row + 1) limit phi downs rights old new ways below first last → row ≤ m → row < first0 → gone ≤ℤ below
+pub back_stopped : (m row : ℕ) (limit : ℤ) (phi downs rights : ℕ → ℤ) (old new : List ℤ) (ways : List Bool) (below : ℤ)
+    (first last first0 last0 : ℕ) → AreFit m limit phi downs rights → IsWindow m first0 last0 old
+    → IsBackUntil m (row + 1) limit phi downs rights old new ways below first last → row ≤ m → row < first0
+    → gone ≤ℤ below
     → IsBackColumn m limit phi downs rights old new ways × IsWindow m first last new
 back_stopped m row limit phi downs rights old new ways below first last first0 last0 f w h lt before none = (
   record {
     rest = λ j less. absurd (omega (arith, less));
     down = λ j le less p. elim (cases_lt row j) [
       | inl more ↦ h.back.down j (omega (arith, more)) less p
-      | inr few ↦ absurd (omega (arith, ints, p, f.small, f.numbers j (omega (arith, less)), f.downs_least j less, next_gone j few less))
+      | inr few ↦ absurd (omega (
+        arith,
+        ints,
+        p,
+        f.small,
+        f.numbers j (omega (arith, less)),
+        f.downs_least j less,
+        next_gone j few less,
+      ))
     ];
     right = λ j le in' p. elim (cases_lt row j) [
       | inl more ↦ h.back.right j (omega (arith, more)) in' p
@@ -193,18 +294,22 @@ back_stopped m row limit phi downs rights old new ways below first last first0 l
 
     next_gone : (j : ℕ) → j ≤ row → j < m → at_row new (j + 1) ≡ gone
     next_gone j few less = elim (cases_eq j row) [
-      | inl d ↦ (let e : j + 1 ≡ row + 1 = omega (arith, d) in omega (arith, ints, ap (at_row new) e, h.below_is (omega (arith, less, d)), h.below_most, none))
+      | inl d ↦ (let e : j + 1 ≡ row + 1 = omega (arith, d) in
+          omega (arith, ints, ap (at_row new) e, h.below_is (omega (arith, less, d)), h.below_most, none))
       | inr ne ↦ new_gone (j + 1) (omega (arith, few, ne))
     ]
 
-pub back_all : (m k : ℕ) (limit : ℤ) (phi downs rights : ℕ → ℤ) (old new : List ℤ) (ways : List Bool) (below : ℤ) (first last : ℕ) → k ≡ 0 → IsBackUntil m k limit phi downs rights old new ways below first last → IsBackColumn m limit phi downs rights old new ways × IsWindow m first last new
+pub back_all : (m k : ℕ) (limit : ℤ) (phi downs rights : ℕ → ℤ) (old new : List ℤ) (ways : List Bool) (below : ℤ)
+    (first last : ℕ) → k ≡ 0 → IsBackUntil m k limit phi downs rights old new ways below first last
+    → IsBackColumn m limit phi downs rights old new ways × IsWindow m first last new
 back_all m k limit phi downs rights old new ways below first last e h = (
   subst (λ (x : ℕ). IsBackTo m x limit phi downs rights old new ways) e h.back,
   record { within = h.last_in; outside = λ j le o. h.outside j (omega (arith, e)) le o },
 )
 
 -- only the end is left
-pub begun_sums : (m : ℕ) (sums : List ℤ) → length sums ≡ m + 1 → ((k : ℕ) → k < m → at_row sums k ≡ gone) → AreSumsOf m (set sums m (pos 0))
+pub begun_sums : (m : ℕ) (sums : List ℤ) → length sums ≡ m + 1 → ((k : ℕ) → k < m → at_row sums k ≡ gone)
+    → AreSumsOf m (set sums m (pos 0))
 begun_sums m sums len all = record {
   count = length-set sums m (pos 0) ∙ len;
   least = λ k le. elim (cases_eq k m) [
@@ -217,7 +322,8 @@ begun_sums m sums len all = record {
   ];
 }
 
-pub begun_window : (m : ℕ) (sums : List ℤ) → length sums ≡ m + 1 → ((k : ℕ) → k < m → at_row sums k ≡ gone) → IsWindow m m m (set sums m (pos 0))
+pub begun_window : (m : ℕ) (sums : List ℤ) → length sums ≡ m + 1 → ((k : ℕ) → k < m → at_row sums k ≡ gone)
+    → IsWindow m m m (set sums m (pos 0))
 begun_window m sums len all = record {
   within = omega arith;
   outside = λ k le o. elim (cases_eq k m) [
@@ -230,7 +336,9 @@ begun_window m sums len all = record {
 }
 
 -- the same ways in another list
-pub back_ways : (m : ℕ) (limit : ℤ) (phi downs rights : ℕ → ℤ) (old new : List ℤ) (ways ways' : List Bool) → ((k : ℕ) → k ≤ m → way_of ways' k ≡ way_of ways k) → IsBackColumn m limit phi downs rights old new ways → IsBackColumn m limit phi downs rights old new ways'
+pub back_ways : (m : ℕ) (limit : ℤ) (phi downs rights : ℕ → ℤ) (old new : List ℤ) (ways ways' : List Bool)
+    → ((k : ℕ) → k ≤ m → way_of ways' k ≡ way_of ways k) → IsBackColumn m limit phi downs rights old new ways
+    → IsBackColumn m limit phi downs rights old new ways'
 back_ways m limit phi downs rights old new ways ways' same h = record {
   rest = h.rest;
   down = h.down;
@@ -240,29 +348,47 @@ back_ways m limit phi downs rights old new ways ways' same h = record {
 }
 
 -- a column of ways between those before it and those after it
-pub way_joined : (q m : ℕ) (front column rest : List Bool) → length front ≡ q → length column ≡ m + 1 → (k : ℕ) → k ≤ m → way_of (drop q (front ++ (column ++ rest))) k ≡ way_of column k
+pub way_joined : (q m : ℕ) (front column rest : List Bool) → length front ≡ q → length column ≡ m + 1 → (k : ℕ) → k ≤ m
+    → way_of (drop q (front ++ (column ++ rest))) k ≡ way_of column k
 way_joined q m front column rest e l k le =
-    get_or-drop q (front ++ (column ++ rest)) k false ∙ ap (λ (x : ℕ). way_of (front ++ (column ++ rest)) (x + k)) (sym e) ∙ get_or-append-add front (column ++ rest) k false ∙ get_or_append_left column rest false k (omega (arith, l, le))
+    get_or-drop q (front ++ (column ++ rest)) k false
+    ∙ ap (λ (x : ℕ). way_of (front ++ (column ++ rest)) (x + k)) (sym e)
+    ∙ get_or-append-add front (column ++ rest) k false
+    ∙ get_or_append_left column rest false k (omega (arith, l, le))
 
-pub way_after : (front column column' rest : List Bool) → length column' ≡ length column → (k : ℕ) → length front + length column ≤ k → way_of (front ++ (column' ++ rest)) k ≡ way_of (front ++ (column ++ rest)) k
+pub way_after : (front column column' rest : List Bool) → length column' ≡ length column → (k : ℕ)
+    → length front + length column ≤ k → way_of (front ++ (column' ++ rest)) k ≡ way_of (front ++ (column ++ rest)) k
 way_after front column column' rest l k le =
     let j : ℕ = k - length front - length column in
     let e : k ≡ length front + (length column + j) = omega (arith, le) in
     let e' : length front + (length column + j) ≡ length front + (length column' + j) = omega (arith, l) in
-    let new = get_or-append-add front (column' ++ rest) (length column' + j) false ∙ get_or-append-add column' rest j false in
-    let old = get_or-append-add front (column ++ rest) (length column + j) false ∙ get_or-append-add column rest j false in
+    let new = get_or-append-add front (column' ++ rest) (length column' + j) false
+    ∙ get_or-append-add column' rest j false in
+    let old = get_or-append-add front (column ++ rest) (length column + j) false
+    ∙ get_or-append-add column rest j false in
     ap (way_of (front ++ (column' ++ rest))) (e ∙ e') ∙ new ∙ sym (ap (way_of (front ++ (column ++ rest))) e ∙ old)
 
 -- the same where the row is written in another way
-pub back_more_at : (m k row : ℕ) (limit : ℤ) (phi downs rights : ℕ → ℤ) (old new : List ℤ) (ways : List Bool) (below sum : ℤ) (way : Bool) (first last first' last' : ℕ) → k ≡ row + 1 → IsBackUntil m k limit phi downs rights old new ways below first last → row ≤ m → length ways ≡ m + 1
-    → (row < m → (phi row +ℤ (downs row +ℤ below)) ≤ℤ limit → sum ≤ℤ (downs row +ℤ below)) → ((phi row +ℤ (rights row +ℤ at_row new row)) ≤ℤ limit → sum ≤ℤ (rights row +ℤ at_row new row))
-    → ((phi row +ℤ sum) ≤ℤ limit → way ≡ true → (row < m) × (sum ≡ downs row +ℤ below)) → ((phi row +ℤ sum) ≤ℤ limit → way ≡ false → (sum ≡ rights row +ℤ at_row new row) × (row < m → sum <ℤ (downs row +ℤ below)))
-    → pos 0 ≤ℤ sum → sum ≤ℤ gone → last' ≤ m → ((row < first') ⊎ (last' < row) → gone ≤ℤ sum) → ((k : ℕ) → row < k → k ≤ m → (k < first') ⊎ (last' < k) → (k < first) ⊎ (last < k))
+pub back_more_at : (m k row : ℕ) (limit : ℤ) (phi downs rights : ℕ → ℤ) (old new : List ℤ) (ways : List Bool)
+    (below sum : ℤ) (way : Bool) (first last first' last' : ℕ) → k ≡ row + 1
+    → IsBackUntil m k limit phi downs rights old new ways below first last → row ≤ m → length ways ≡ m + 1
+    → (row < m → (phi row +ℤ (downs row +ℤ below)) ≤ℤ limit → sum ≤ℤ (downs row +ℤ below))
+    → ((phi row +ℤ (rights row +ℤ at_row new row)) ≤ℤ limit → sum ≤ℤ (rights row +ℤ at_row new row))
+    → ((phi row +ℤ sum) ≤ℤ limit → way ≡ true → (row < m) × (sum ≡ downs row +ℤ below))
+    → ((phi row +ℤ sum) ≤ℤ limit → way ≡ false → (sum ≡ rights row +ℤ at_row new row)
+    × (row < m → sum <ℤ (downs row +ℤ below)))
+    → pos 0 ≤ℤ sum → sum ≤ℤ gone → last' ≤ m → ((row < first') ⊎ (last' < row) → gone ≤ℤ sum)
+    → ((k : ℕ) → row < k → k ≤ m → (k < first') ⊎ (last' < k) → (k < first) ⊎ (last < k))
     → IsBackUntil m row limit phi downs rights old (set new row sum) (set ways row way) sum first' last'
 back_more_at m k row limit phi downs rights old new ways below sum way first last first' last' e h =
-    back_more m row limit phi downs rights old new ways below sum way first last first' last' (subst (λ (x : ℕ). IsBackUntil m x limit phi downs rights old new ways below first last) e h)
+    back_more m row limit phi downs rights old new ways below sum way first last first' last'
+    (subst (λ (x : ℕ). IsBackUntil m x limit phi downs rights old new ways below first last) e h)
 
-pub back_stopped_at : (m k row : ℕ) (limit : ℤ) (phi downs rights : ℕ → ℤ) (old new : List ℤ) (ways : List Bool) (below : ℤ) (first last first0 last0 : ℕ) → k ≡ row + 1 → AreFit m limit phi downs rights → IsWindow m first0 last0 old → IsBackUntil m k limit phi downs rights old new ways below first last → row ≤ m → row < first0 → gone ≤ℤ below
+pub back_stopped_at : (m k row : ℕ) (limit : ℤ) (phi downs rights : ℕ → ℤ) (old new : List ℤ) (ways : List Bool)
+    (below : ℤ) (first last first0 last0 : ℕ) → k ≡ row + 1 → AreFit m limit phi downs rights
+    → IsWindow m first0 last0 old → IsBackUntil m k limit phi downs rights old new ways below first last → row ≤ m
+    → row < first0 → gone ≤ℤ below
     → IsBackColumn m limit phi downs rights old new ways × IsWindow m first last new
 back_stopped_at m k row limit phi downs rights old new ways below first last first0 last0 e f w h =
-    back_stopped m row limit phi downs rights old new ways below first last first0 last0 f w (subst (λ (x : ℕ). IsBackUntil m x limit phi downs rights old new ways below first last) e h)
+    back_stopped m row limit phi downs rights old new ways below first last first0 last0 f w
+    (subst (λ (x : ℕ). IsBackUntil m x limit phi downs rights old new ways below first last) e h)

@@ -16,17 +16,28 @@ pub record AreLowered (old new : List ℤ) : Type 0 where
 pub lowered_none : (old : List ℤ) → AreRates old → AreLowered old old
 lowered_none old h = record { count = omega arith; rates = h; lower = λ r lt. omega (arith, ints) }
 
-pub lowered_more : (old new : List ℤ) (row : ℕ) (cost : ℤ) → AreLowered old new → row < length old → pos 0 ≤ℤ cost → cost ≤ℤ at_row new row → AreLowered old (set new row cost)
+pub lowered_more : (old new : List ℤ) (row : ℕ) (cost : ℤ) → AreLowered old new → row < length old → pos 0 ≤ℤ cost
+    → cost ≤ℤ at_row new row → AreLowered old (set new row cost)
 lowered_more old new row cost h lt least less = record {
   count = length-set new row cost ∙ h.count;
   rates = record {
     least = λ r in'. (elim (cases_eq r row) [
       | inl d ↦ omega (arith, ints, written new row r cost within d, least)
-      | inr ne ↦ omega (arith, ints, kept new row r cost ne, h.rates.least r (omega (arith, in', length-set new row cost)))
+      | inr ne ↦ omega (
+        arith,
+        ints,
+        kept new row r cost ne,
+        h.rates.least r (omega (arith, in', length-set new row cost)),
+      )
     ]);
     most = λ r in'. (elim (cases_eq r row) [
       | inl d ↦ omega (arith, ints, written new row r cost within d, less, h.rates.most row within)
-      | inr ne ↦ omega (arith, ints, kept new row r cost ne, h.rates.most r (omega (arith, in', length-set new row cost)))
+      | inr ne ↦ omega (
+        arith,
+        ints,
+        kept new row r cost ne,
+        h.rates.most r (omega (arith, in', length-set new row cost)),
+      )
     ]);
   };
   lower = λ r in'. (elim (cases_eq r row) [
@@ -38,7 +49,8 @@ lowered_more old new row cost h lt least less = record {
     within : row < length new
     within = omega (arith, lt, h.count)
 
-pub lowered_again : (old mid new : List ℤ) → AreLowered old mid → AreRates new → length new ≡ length mid → ((r : ℕ) → r < length mid → at_row new r ≤ℤ at_row mid r) → AreLowered old new
+pub lowered_again : (old mid new : List ℤ) → AreLowered old mid → AreRates new → length new ≡ length mid
+    → ((r : ℕ) → r < length mid → at_row new r ≤ℤ at_row mid r) → AreLowered old new
 lowered_again old mid new h rates len lower = record {
   count = len ∙ h.count;
   rates = rates;
@@ -58,7 +70,8 @@ first_none downs new = record {
   most = λ r lt. absurd (omega (arith, lt));
 }
 
-pub first_more : (row : ℕ) (downs : ℕ → ℤ) (new : List ℤ) (cost : ℤ) → AreFirstRates row downs new → row < length new → cost ≡ downs row → pos 0 ≤ℤ cost → cost ≤ℤ cost_limit → AreFirstRates (row + 1) downs (set new row cost)
+pub first_more : (row : ℕ) (downs : ℕ → ℤ) (new : List ℤ) (cost : ℤ) → AreFirstRates row downs new → row < length new
+    → cost ≡ downs row → pos 0 ≤ℤ cost → cost ≤ℤ cost_limit → AreFirstRates (row + 1) downs (set new row cost)
 first_more row downs new cost h lt e least most = record {
   are = set_more (λ (k : ℕ) (x : ℤ). x ≡ downs k) (pos 0) new row cost lt h.are e;
   least = set_more (λ (k : ℕ) (x : ℤ). pos 0 ≤ℤ x) (pos 0) new row cost lt h.least least;
@@ -66,4 +79,5 @@ first_more row downs new cost h lt e least most = record {
 }
 
 pub first_all : (row : ℕ) (downs : ℕ → ℤ) (new : List ℤ) → AreFirstRates row downs new → length new ≤ row → AreRates new
-first_all row downs new h le = record { least = λ r lt. h.least r (omega (arith, lt, le)); most = λ r lt. h.most r (omega (arith, lt, le)) }
+first_all row downs new h le = record
+    { least = λ r lt. h.least r (omega (arith, lt, le)); most = λ r lt. h.most r (omega (arith, lt, le)) }

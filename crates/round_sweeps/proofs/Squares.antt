@@ -8,7 +8,8 @@ pub by_itself : (x : ℤ) → x *ℤ x ≡ pos (unsigned_abs x * unsigned_abs x)
 by_itself (pos m) = pos-*ℤ-pos m m
 by_itself (negsuc m) = negsuc-*ℤ-negsuc m m
 
-pub squared : (x : ℤ) → unsigned_abs x ≤ 1999998 → to_z w64 (of_z w64 (to_z w64 (of_z w64 x) *ℤ to_z w64 (of_z w64 x))) ≡ pos (unsigned_abs x * unsigned_abs x)
+pub squared : (x : ℤ) → unsigned_abs x ≤ 1999998
+    → to_z w64 (of_z w64 (to_z w64 (of_z w64 x) *ℤ to_z w64 (of_z w64 x))) ≡ pos (unsigned_abs x * unsigned_abs x)
 squared x h =
     let small : unsigned_abs x ≤ 8000000000000 = omega (arith, h) in
     let size : unsigned_abs (x *ℤ x) ≤ 8000000000000 = omega (arith, unsigned_abs-mul x x, mul-le-mul h h) in

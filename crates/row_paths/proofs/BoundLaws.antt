@@ -74,7 +74,8 @@ pub sum_eq : (s t c most : ℕ) → s ≡ t → t + c ≤ most → s + c ≤ mos
 sum_eq s t c most e h = omega arith
 
 -- the bound of a row above the last one, as it is read
-pub bound_next : (xs : List ℕ) (x x' end : ℕ) → x' ≡ x → x < end → end + 1 < length xs → bound_at xs (x + 1) ≡ get_or xs (x' + 1) 0
+pub bound_next : (xs : List ℕ) (x x' end : ℕ) → x' ≡ x → x < end → end + 1 < length xs
+    → bound_at xs (x + 1) ≡ get_or xs (x' + 1) 0
 bound_next xs x x' end e lt fits = bound_read xs x x' e (omega arith)
 
 -- the row is within the list
@@ -114,33 +115,41 @@ pub col_end : {b first col k : ℕ} → b ≡ first → b ≤ k → col ≤ firs
 col_end e h k = omega arith
 
 -- the loop's count of steps
-pub left_one : (was steps one first last col : ℕ) → steps ≤ was + (last - col) → one ≡ steps + 1 → first < col → col ≤ last → one ≤ was + (last - (col - 1))
+pub left_one : (was steps one first last col : ℕ) → steps ≤ was + (last - col) → one ≡ steps + 1 → first < col
+    → col ≤ last → one ≤ was + (last - (col - 1))
 left_one was steps one first last col count tick from to = omega arith
 
-pub left_two : (was steps one two first last col : ℕ) → steps ≤ was + 2 * (last - col) → one ≡ steps + 1 → two ≡ one + 1 → first < col → col ≤ last → two ≤ was + 2 * (last - (col - 1))
+pub left_two : (was steps one two first last col : ℕ) → steps ≤ was + 2 * (last - col) → one ≡ steps + 1 → two ≡ one + 1
+    → first < col → col ≤ last → two ≤ was + 2 * (last - (col - 1))
 left_two was steps one two first last col count tick tick' from to = omega arith
 
-pub left_all : (was steps first last col b b' : ℕ) → steps ≤ was + 2 * (last - col) → min first last ≤ col → b ≡ first → b' ≡ last → steps ≤ was + 2 * (b' - b)
+pub left_all : (was steps first last col b b' : ℕ) → steps ≤ was + 2 * (last - col) → min first last ≤ col → b ≡ first
+    → b' ≡ last → steps ≤ was + 2 * (b' - b)
 left_all was steps first last col b b' count low e e' = omega arith
 
-pub left_done : (was steps first last col : ℕ) → steps ≤ was + (last - col) → min first last ≤ col → steps ≤ was + (last - first)
+pub left_done : (was steps first last col : ℕ) → steps ≤ was + (last - col) → min first last ≤ col
+    → steps ≤ was + (last - first)
 left_done was steps first last col count low = omega arith
 
 pub one_step : (was steps : ℕ) → steps ≡ was + 1 → steps ≤ was + 1
 one_step was steps e = omega arith
 
 -- the same from left to right
-pub right_one : (was steps one first col : ℕ) → steps ≤ was + (col - first) → one ≡ steps + 1 → first ≤ col → one ≤ was + (col + 1 - first)
+pub right_one : (was steps one first col : ℕ) → steps ≤ was + (col - first) → one ≡ steps + 1 → first ≤ col
+    → one ≤ was + (col + 1 - first)
 right_one was steps one first col count tick from = omega arith
 
-pub right_two : (was steps one two first col : ℕ) → steps ≤ was + 2 * (col - first) → one ≡ steps + 1 → two ≡ one + 1 → first ≤ col → two ≤ was + 2 * (col + 1 - first)
+pub right_two : (was steps one two first col : ℕ) → steps ≤ was + 2 * (col - first) → one ≡ steps + 1 → two ≡ one + 1
+    → first ≤ col → two ≤ was + 2 * (col + 1 - first)
 right_two was steps one two first col count tick tick' from = omega arith
 
 -- the count of steps of one more row, by the area of the rows
-pub first_count : (was steps l h j area : ℕ) → steps ≤ was + (h - j) → area ≡ h + 1 - max l j → l ≤ j → steps ≤ was + 2 * area
+pub first_count : (was steps l h j area : ℕ) → steps ≤ was + (h - j) → area ≡ h + 1 - max l j → l ≤ j
+    → steps ≤ was + 2 * area
 first_count was steps l h j area count e from = omega arith
 
-pub more_count : (was old new d d' area area' : ℕ) → old ≤ was + 2 * area → new ≤ old + 2 * d' → area' ≡ area + d → d ≡ d' → new ≤ was + 2 * area'
+pub more_count : (was old new d d' area area' : ℕ) → old ≤ was + 2 * area → new ≤ old + 2 * d' → area' ≡ area + d
+    → d ≡ d' → new ≤ was + 2 * area'
 more_count was old new d d' area area' count count' e e' = omega arith
 
 pub count_to : (was steps area area' : ℕ) → steps ≤ was + 2 * area → area ≡ area' → steps ≤ was + 2 * area'

@@ -19,17 +19,28 @@ entry-lowered : (m i i' j : ℕ) (w : List Step) (x x' : ℕ) → i' ≡ i + m �
 entry-lowered m i i' j [] x x' e d = refl
 entry-lowered m i i' j (V ∷ w) x x' e d =
     elim (cases_lt i x) [
-      | inl lt ↦ omega (arith, entry-v i' j w x' (omega arith), entry-v i j w x lt, entry-lowered m (i + 1) (i' + 1) j w x x' (omega arith) d)
+      | inl lt ↦ omega (
+        arith,
+        entry-v i' j w x' (omega arith),
+        entry-v i j w x lt,
+        entry-lowered m (i + 1) (i' + 1) j w x x' (omega arith) d,
+      )
       | inr ge ↦ omega (arith, entry-start i' j (V ∷ w) x' (omega arith), entry-start i j (V ∷ w) x ge)
     ]
 entry-lowered m i i' j (H ∷ w) x x' e d =
     elim (cases_lt i x) [
-      | inl lt ↦ omega (arith, entry-h i' j w x' (omega arith), entry-h i j w x lt, entry-lowered m i i' (j + 1) w x x' e d)
+      | inl lt ↦ omega (
+        arith,
+        entry-h i' j w x' (omega arith),
+        entry-h i j w x lt,
+        entry-lowered m i i' (j + 1) w x x' e d,
+      )
       | inr ge ↦ omega (arith, entry-start i' j (H ∷ w) x' (omega arith), entry-start i j (H ∷ w) x ge)
     ]
 
 -- a canonical word is that further up too
-first-raised : (a : Arcs) (m n i j r c : ℕ) (w : List Step) → Periodic a m n → IsFirst a (i + m) j r c w → IsFirst a i j r c w
+first-raised : (a : Arcs) (m n i j r c : ℕ) (w : List Step) → Periodic a m n → IsFirst a (i + m) j r c w
+    → IsFirst a i j r c w
 first-raised a m n i j r c w p f = record {
   letters = f.letters;
   least = omega (arith, f.least, word_cost-row a m n p i j w, same);
@@ -55,7 +66,12 @@ abbrev pub lowered : ℕ → List ℕ → List ℕ
 lowered m path = replicate m 0 ++ take (m + 2) path
 
 pub lowered_count : (m : ℕ) (path : List ℕ) → m + 2 ≤ length path → length (lowered m path) ≡ m + (m + 2)
-lowered_count m path fits = omega (arith, length-append (replicate m 0) (take (m + 2) path), length-replicate {A = ℕ} m 0, length-take-le (m + 2) path fits)
+lowered_count m path fits = omega (
+  arith,
+  length-append (replicate m 0) (take (m + 2) path),
+  length-replicate {A = ℕ} m 0,
+  length-take-le (m + 2) path fits,
+)
 
 lowered_above : (m : ℕ) (path : List ℕ) (x : ℕ) → m + 2 ≤ length path → x < m → bound_at (lowered m path) x ≡ 0
 lowered_above m path x fits lt =
@@ -63,7 +79,8 @@ lowered_above m path x fits lt =
     ∙ get_or_append_left (replicate m 0) (take (m + 2) path) 0 x (omega (arith, length-replicate {A = ℕ} m 0))
     ∙ get_or-replicate {A = ℕ} m x 0 0 lt
 
-lowered_below : (m : ℕ) (path : List ℕ) (x : ℕ) → m + 2 ≤ length path → m ≤ x → bound_at (lowered m path) x ≡ bound_at path (min (x - m) (m + 1))
+lowered_below : (m : ℕ) (path : List ℕ) (x : ℕ) → m + 2 ≤ length path → m ≤ x
+    → bound_at (lowered m path) x ≡ bound_at path (min (x - m) (m + 1))
 lowered_below m path x fits le =
     let y : ℕ = min (x - m) (m + 1) in
     let e : min x (length (lowered m path) - 1) ≡ y + m = omega (arith, lowered_count m path fits) in
@@ -74,7 +91,8 @@ lowered_below m path x fits le =
     ∙ sym (bound_at-read path y (omega (arith, fits)))
 
 -- the word of the turn from row m to itself is the first one, once round below
-pub lowered_path : (a : Arcs) (m n : ℕ) (path : List ℕ) → Periodic a m n → m + 2 ≤ length path → IsPathOf a m n 0 path → IsPathOf a m n (2 * m) (lowered m path)
+pub lowered_path : (a : Arcs) (m n : ℕ) (path : List ℕ) → Periodic a m n → m + 2 ≤ length path → IsPathOf a m n 0 path
+    → IsPathOf a m n (2 * m) (lowered m path)
 lowered_path a m n path p fits k w f x =
     at (cases_lt x m) ∙ ap (λ (i : ℕ). entry i 0 w x) (omega arith)
   where
@@ -85,7 +103,8 @@ lowered_path a m n path p fits k w f x =
     above = first-raised a m n 0 0 m n w p (subst₂ (λ (i r : ℕ). IsFirst a i 0 r n w) (omega arith) refl here)
 
     read : (y : ℕ) → bound_at path y ≡ entry 0 0 w y
-    read y = k w (subst₂ (λ (i r : ℕ). IsFirst a i 0 r n w) (omega arith) (omega arith) above) y ∙ ap (λ (i : ℕ). entry i 0 w y) (omega arith)
+    read y = k w (subst₂ (λ (i r : ℕ). IsFirst a i 0 r n w) (omega arith) (omega arith) above) y
+        ∙ ap (λ (i : ℕ). entry i 0 w y) (omega arith)
 
     within : (y : ℕ) → m < y → entry 0 0 w y ≡ n
     within y lt = omega (arith, entry-end 0 0 w y (omega (arith, here.letters.v)), here.letters.h)
@@ -97,4 +116,5 @@ lowered_path a m n path p fits k w f x =
     at : (x < m) ⊎ (m ≤ x) → bound_at (lowered m path) x ≡ entry m 0 w x
     at (inl lt) = lowered_above m path x fits lt ∙ sym (entry-start m 0 w x (omega arith))
     at (inr ge) =
-        lowered_below m path x fits ge ∙ read (min (x - m) (m + 1)) ∙ capped (x - m) (cases_lt (x - m) (m + 2)) ∙ sym (entry-lowered m 0 m 0 w (x - m) x (omega arith) (omega arith))
+        lowered_below m path x fits ge ∙ read (min (x - m) (m + 1)) ∙ capped (x - m) (cases_lt (x - m) (m + 2))
+        ∙ sym (entry-lowered m 0 m 0 w (x - m) x (omega arith) (omega arith))

@@ -35,18 +35,25 @@ cost_small s q p =
     short : (q m n : ℕ) → m ≤ MAX_COMPOSITE_VERTICES → n ≤ MAX_COMPOSITE_VERTICES → end_of m q - start_of q + n ≤ 2 ^ 14
     short q m n b d = omega arith
 
-pub offset_below : (s : Strip) (l : ℕ) → IsStrip s → l < rows s → unsigned_abs (offset (arcs s) (rows s) (cols s) l) < 10 ^ 35
+pub offset_below : (s : Strip) (l : ℕ) → IsStrip s → l < rows s
+    → unsigned_abs (offset (arcs s) (rows s) (cols s) l) < 10 ^ 35
 offset_below s l p lt =
-    omega (arith, offset-small (arcs s) (rows s) (cols s) step_cost_limit l (arcs-le s p) lt, mul-le-mul_right step_cost_limit (short (rows s) (cols s) p.low.few p.high.few))
+    omega (
+      arith,
+      offset-small (arcs s) (rows s) (cols s) step_cost_limit l (arcs-le s p) lt,
+      mul-le-mul_right step_cost_limit (short (rows s) (cols s) p.low.few p.high.few),
+    )
   where
     short : (m n : ℕ) → m ≤ MAX_COMPOSITE_VERTICES → n ≤ MAX_COMPOSITE_VERTICES → 2 * m + n ≤ 12288
     short m n b d = omega arith
 
-pub offset_fits : (s : Strip) (l : ℕ) → IsStrip s → l < rows s → unsigned_abs (offset (arcs s) (rows s) (cols s) l) ≤ 2 ^ 120
+pub offset_fits : (s : Strip) (l : ℕ) → IsStrip s → l < rows s
+    → unsigned_abs (offset (arcs s) (rows s) (cols s) l) ≤ 2 ^ 120
 offset_fits s l p lt = omega (arith, offset_below s l p lt)
 
 -- one more offset
-pub offsets_more : (a : Arcs) (m n k : ℕ) (x : ℤ) (xs xs' : List ℤ) → xs' ≡ xs ++ x ∷ [] → x ≡ offset a m n k → AreOffsets a m n k xs → AreOffsets a m n (k + 1) xs'
+pub offsets_more : (a : Arcs) (m n k : ℕ) (x : ℤ) (xs xs' : List ℤ) → xs' ≡ xs ++ x ∷ [] → x ≡ offset a m n k
+    → AreOffsets a m n k xs → AreOffsets a m n (k + 1) xs'
 offsets_more a m n k x xs xs' e is c = record {
   count = omega (arith, ap length e, length_push xs x, c.count);
   are = λ l lt. ap (λ (ys : List ℤ). get_or ys l (pos 0)) e ∙ at l (cases_lt l k) lt;
@@ -54,4 +61,5 @@ offsets_more a m n k x xs xs' e is c = record {
   where
     at : (l : ℕ) → (l < k) ⊎ (k ≤ l) → l < k + 1 → get_or (xs ++ x ∷ []) l (pos 0) ≡ offset a m n l
     at l (inl lt) le = get_or_append_left xs (x ∷ []) (pos 0) l (omega (arith, c.count)) ∙ c.are l lt
-    at l (inr ge) le = let d : k ≡ l = omega arith in get_or_push xs x (pos 0) l (c.count ∙ d) ∙ is ∙ ap (offset a m n) d
+    at l (inr ge) le = let d : k ≡ l = omega arith in get_or_push xs x (pos 0) l (c.count ∙ d) ∙ is
+        ∙ ap (offset a m n) d

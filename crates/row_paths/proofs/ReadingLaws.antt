@@ -22,28 +22,56 @@ digits_few : (f k : ℕ) → k ≤ f → 125 ≤ k → 16 * digits k ≤ k + 3
 digits_few zero k le from = absurd (omega arith)
 digits_few (suc f) k le from = by_size (cases_lt k 256) (digits_few f (k / 2))
   where
-    by_size : (k < 256) ⊎ (256 ≤ k) → (k / 2 ≤ f → 125 ≤ k / 2 → 16 * digits (k / 2) ≤ k / 2 + 3) → 16 * digits k ≤ k + 3
+    by_size : (k < 256) ⊎ (256 ≤ k) → (k / 2 ≤ f → 125 ≤ k / 2 → 16 * digits (k / 2) ≤ k / 2 + 3)
+        → 16 * digits k ≤ k + 3
     by_size (inl lt) half = omega (arith, digits-mono k 255 (omega arith), digits_255)
     by_size (inr ge) half = omega (arith, digits-half k (omega arith), half (omega arith) (omega arith))
 
 -- the comparison, where d stands for the number of digits
-fewer_6 : (n d : ℕ) → 32 ≤ n → d ≤ 6 → 2 * ((d + 2) * (2 * n * (n + 1)) + (8 * n + 2 * d) * (n + n + 2)) < plain_readings n n
-fewer_6 n d from few = omega (arith, few, mul-le-mul_right (n * n) few, mul-le-mul_right n few, mul-le-mul_right (n * n) from, mul-le-mul_right n from)
+fewer_6 : (n d : ℕ) → 32 ≤ n → d ≤ 6
+    → 2 * ((d + 2) * (2 * n * (n + 1)) + (8 * n + 2 * d) * (n + n + 2)) < plain_readings n n
+fewer_6 n d from few = omega (
+  arith,
+  few,
+  mul-le-mul_right (n * n) few,
+  mul-le-mul_right n few,
+  mul-le-mul_right (n * n) from,
+  mul-le-mul_right n from,
+)
 
-fewer_7 : (n d : ℕ) → 34 ≤ n → d ≤ 7 → 2 * ((d + 2) * (2 * n * (n + 1)) + (8 * n + 2 * d) * (n + n + 2)) < plain_readings n n
-fewer_7 n d from few = omega (arith, few, mul-le-mul_right (n * n) few, mul-le-mul_right n few, mul-le-mul_right (n * n) from, mul-le-mul_right n from)
+fewer_7 : (n d : ℕ) → 34 ≤ n → d ≤ 7
+    → 2 * ((d + 2) * (2 * n * (n + 1)) + (8 * n + 2 * d) * (n + n + 2)) < plain_readings n n
+fewer_7 n d from few = omega (
+  arith,
+  few,
+  mul-le-mul_right (n * n) few,
+  mul-le-mul_right n few,
+  mul-le-mul_right (n * n) from,
+  mul-le-mul_right n from,
+)
 
-fewer_more : (n d : ℕ) → 66 ≤ n → 8 * d ≤ n → 2 * ((d + 2) * (2 * n * (n + 1)) + (8 * n + 2 * d) * (n + n + 2)) < plain_readings n n
-fewer_more n d from few = omega (arith, few, mul-le-mul_right (n * n) few, mul-le-mul_right n few, mul-le-mul_right (n * n) from, mul-le-mul_right n from)
+fewer_more : (n d : ℕ) → 66 ≤ n → 8 * d ≤ n
+    → 2 * ((d + 2) * (2 * n * (n + 1)) + (8 * n + 2 * d) * (n + n + 2)) < plain_readings n n
+fewer_more n d from few = omega (
+  arith,
+  few,
+  mul-le-mul_right (n * n) few,
+  mul-le-mul_right n few,
+  mul-le-mul_right (n * n) from,
+  mul-le-mul_right n from,
+)
 
 -- with as many rows as columns, and at least 32
 pub readings-fewer : (n : ℕ) → 32 ≤ n → most_readings n n < plain_readings n n
 readings-fewer n from = by_size (cases_lt n 34) (cases_lt n 66)
   where
     by_size : (n < 34) ⊎ (34 ≤ n) → (n < 66) ⊎ (66 ≤ n) → most_readings n n < plain_readings n n
-    by_size (inl small) _ = fewer_6 n (digits (2 * n - 3)) from (omega (arith, digits-mono (2 * n - 3) 63 (omega arith), digits_63))
-    by_size (inr some) (inl few) = fewer_7 n (digits (2 * n - 3)) some (omega (arith, digits-mono (2 * n - 3) 127 (omega arith), digits_127))
-    by_size (inr some) (inr more) = fewer_more n (digits (2 * n - 3)) more (omega (arith, digits_few (2 * n - 3) (2 * n - 3) (omega arith) (omega arith)))
+    by_size (inl small) _ = fewer_6 n (digits (2 * n - 3)) from
+        (omega (arith, digits-mono (2 * n - 3) 63 (omega arith), digits_63))
+    by_size (inr some) (inl few) = fewer_7 n (digits (2 * n - 3)) some
+        (omega (arith, digits-mono (2 * n - 3) 127 (omega arith), digits_127))
+    by_size (inr some) (inr more) = fewer_more n (digits (2 * n - 3)) more
+        (omega (arith, digits_few (2 * n - 3) (2 * n - 3) (omega arith) (omega arith)))
 
 -- with 1,024 of both
 pub bound-1024 : most_readings 1024 1024 ≡ 88256600

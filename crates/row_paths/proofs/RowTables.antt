@@ -12,18 +12,26 @@ room_for r i m m' size len e lt is count =
     omega (arith, count, mul-le-mul_right size more)
 
 -- the rows so far, as they are passed on
-pub rows_at : {C : Type 0} (value : C → ℕ) (b : ℕ) (cost : Strip → ℕ → ℕ → ℕ) (p q : Strip) (size i j : ℕ) (xs ys : List C) → p ≡ q → i ≡ j → xs ≡ ys → AreFirstCosts b (cost p) size (map value (take (i * size) xs)) → AreFirstCosts b (cost q) size (map value (take (j * size) ys))
+pub rows_at : {C : Type 0} (value : C → ℕ) (b : ℕ) (cost : Strip → ℕ → ℕ → ℕ) (p q : Strip) (size i j : ℕ)
+    (xs ys : List C) → p ≡ q → i ≡ j → xs ≡ ys → AreFirstCosts b (cost p) size (map value (take (i * size) xs))
+    → AreFirstCosts b (cost q) size (map value (take (j * size) ys))
 rows_at {C = C} value b cost p q size i j xs ys e f d all =
-    subst₂ (λ (s : Strip) (k : ℕ). AreFirstCosts b (cost s) size (map value (take (k * size) ys))) e f (subst (λ (l : List C). AreFirstCosts b (cost p) size (map value (take (i * size) l))) d all)
+    subst₂ (λ (s : Strip) (k : ℕ). AreFirstCosts b (cost s) size (map value (take (k * size) ys))) e f
+    (subst (λ (l : List C). AreFirstCosts b (cost p) size (map value (take (i * size) l))) d all)
 
 -- one more row
-pub next_count : {C : Type 0} (new from old : List C) (len n : ℕ) → length new ≡ length from → from ≡ old → length from ≡ len → length old ≡ n → length (take len (new ++ drop (length new) old)) ≡ n
-next_count new from old len n e f size count = ap length (written new old len (sym (e ∙ size))) ∙ e ∙ ap length f ∙ count
+pub next_count : {C : Type 0} (new from old : List C) (len n : ℕ) → length new ≡ length from → from ≡ old
+    → length from ≡ len → length old ≡ n → length (take len (new ++ drop (length new) old)) ≡ n
+next_count new from old len n e f size count = ap length (written new old len (sym (e ∙ size))) ∙ e ∙ ap length f
+    ∙ count
 
-pub next_rows : {C : Type 0} (value : C → ℕ) (b : ℕ) (cost : Strip → ℕ → ℕ → ℕ) (p q : Strip) (size i j : ℕ) (new from old : List C) (len : ℕ) → length new ≡ length from → length from ≡ len → p ≡ q → i ≡ j
-    → AreFirstCosts b (cost p) size (map value (take ((i + 1) * size) new)) → AreFirstCosts b (cost q) size (map value (take ((j + 1) * size) (take len (new ++ drop (length new) old))))
+pub next_rows : {C : Type 0} (value : C → ℕ) (b : ℕ) (cost : Strip → ℕ → ℕ → ℕ) (p q : Strip) (size i j : ℕ)
+    (new from old : List C) (len : ℕ) → length new ≡ length from → length from ≡ len → p ≡ q → i ≡ j
+    → AreFirstCosts b (cost p) size (map value (take ((i + 1) * size) new))
+    → AreFirstCosts b (cost q) size (map value (take ((j + 1) * size) (take len (new ++ drop (length new) old))))
 next_rows value b cost p q size i j new from old len e size' same row all =
-    rows_at value b cost p q size (i + 1) (j + 1) new (take len (new ++ drop (length new) old)) same (ap (λ (k : ℕ). k + 1) row) (sym (written new old len (sym (e ∙ size')))) all
+    rows_at value b cost p q size (i + 1) (j + 1) new (take len (new ++ drop (length new) old)) same
+    (ap (λ (k : ℕ). k + 1) row) (sym (written new old len (sym (e ∙ size')))) all
 
 pub next_steps : (was old new row size : ℕ) → old ≤ was + row * size → new ≤ old + size → new ≤ was + (row + 1) * size
 next_steps was old new row size count count' = omega (arith, count, count')
@@ -32,10 +40,13 @@ next_steps was old new row size count count' = omega (arith, count, count')
 pub no_steps : (was size : ℕ) → was ≤ was + 0 * size
 no_steps was size = omega arith
 
-pub all_rows : {C : Type 0} (value : C → ℕ) (b : ℕ) (cost : ℕ → ℕ → ℕ) (size i m m' : ℕ) (xs : List C) → length xs ≡ m * size → m' ≤ i → m' ≡ m → AreFirstCosts b cost size (map value (take (i * size) xs)) → AreFirstCosts b cost size (map value xs)
+pub all_rows : {C : Type 0} (value : C → ℕ) (b : ℕ) (cost : ℕ → ℕ → ℕ) (size i m m' : ℕ) (xs : List C)
+    → length xs ≡ m * size → m' ≤ i → m' ≡ m → AreFirstCosts b cost size (map value (take (i * size) xs))
+    → AreFirstCosts b cost size (map value xs)
 all_rows {C = C} value b cost size i m m' xs count le is all =
     let more : m ≤ i = omega arith in
-    subst (λ (l : List C). AreFirstCosts b cost size (map value l)) (take_all (i * size) xs (omega (arith, count, mul-le-mul_right size more))) all
+    subst (λ (l : List C). AreFirstCosts b cost size (map value l))
+    (take_all (i * size) xs (omega (arith, count, mul-le-mul_right size more))) all
 
 pub all_steps : (was steps row m m' size : ℕ) → steps ≤ was + row * size → row ≤ m' → m' ≡ m → steps ≤ was + m * size
 all_steps was steps row m m' size count le is =

@@ -18,12 +18,16 @@ cost_of_turn a m n k =
     let f : end_of m (2 * k) - start_of (2 * k) ≡ m = omega arith in
     ap₂ (λ (x y : ℕ). distance a x 0 y n) e f
 
-pub turn_read : (a : Arcs) (m n k : ℕ) (costs : List ℕ) → AreCosts a m n (2 * m - 1) costs → k < m → get_or costs (2 * k) 0 ≡ distance a k 0 m n
+pub turn_read : (a : Arcs) (m n k : ℕ) (costs : List ℕ) → AreCosts a m n (2 * m - 1) costs → k < m
+    → get_or costs (2 * k) 0 ≡ distance a k 0 m n
 turn_read a m n k costs c lt = c.are (2 * k) (omega arith) ∙ cost_of_turn a m n k
 
 -- the first least of these costs, and the first least word of its turn, are the chosen tiling
-pub solved : (s : Strip) (costs costs' rounds rounds' : List ℕ) (best : ℕ) (w : List Step) → IsRing s.high → costs' ≡ costs → rounds' ≡ rounds → AreCosts (arcs s) (rows s) (cols s) (2 * rows s - 1) costs → length rounds ≡ rows s
-    → ((k : ℕ) → k < rows s → get_or rounds k 0 ≡ get_or costs' (2 * k) 0) → IsFirstLeast rounds' best → IsFirst (arcs s) best 0 (rows s) (cols s) w
+pub solved : (s : Strip) (costs costs' rounds rounds' : List ℕ) (best : ℕ) (w : List Step) → IsRing s.high
+    → costs' ≡ costs → rounds' ≡ rounds → AreCosts (arcs s) (rows s) (cols s) (2 * rows s - 1) costs
+    → length rounds ≡ rows s
+    → ((k : ℕ) → k < rows s → get_or rounds k 0 ≡ get_or costs' (2 * k) 0) → IsFirstLeast rounds' best
+    → IsFirst (arcs s) best 0 (rows s) (cols s) w
     → IsChosen (arcs s) (rows s) (cols s) best w × (get_or rounds best 0 ≡ word_cost (arcs s) best 0 w)
 solved s costs costs' rounds rounds' best w ring same same' are count from least' f = (
   chosen (arcs s) (rows s) (cols s) best w (arcs-periodic s) (omega (arith, ring.enough)) below
@@ -40,9 +44,18 @@ solved s costs costs' rounds rounds' best w ring same same' are count from least
     below = omega (arith, least.within, count)
 
     read : (k : ℕ) → k < rows s → get_or rounds k 0 ≡ distance (arcs s) k 0 (rows s) (cols s)
-    read k lt = from k lt ∙ ap (λ (l : List ℕ). get_or l (2 * k) 0) same ∙ turn_read (arcs s) (rows s) (cols s) k costs are lt
+    read k lt = from k lt ∙ ap (λ (l : List ℕ). get_or l (2 * k) 0) same
+        ∙ turn_read (arcs s) (rows s) (cols s) k costs are lt
 
 -- its cost is not large
-pub round_fits : (s : Strip) (costs costs' rounds : List ℕ) (k : ℕ) → IsStrip s → costs' ≡ costs → AreCosts (arcs s) (rows s) (cols s) (2 * rows s - 1) costs
+pub round_fits : (s : Strip) (costs costs' rounds : List ℕ) (k : ℕ) → IsStrip s → costs' ≡ costs
+    → AreCosts (arcs s) (rows s) (cols s) (2 * rows s - 1) costs
     → ((k : ℕ) → k < rows s → get_or rounds k 0 ≡ get_or costs' (2 * k) 0) → k < rows s → get_or rounds k 0 ≤ 2 ^ 120
-round_fits s costs costs' rounds k p same are from lt = omega (arith, from k lt, ap (λ (l : List ℕ). get_or l (2 * k) 0) same, are.are (2 * k) (omega (arith, lt)), cost_small s (2 * k) p)
+round_fits s costs costs' rounds k p same are from lt =
+    omega (
+      arith,
+      from k lt,
+      ap (λ (l : List ℕ). get_or l (2 * k) 0) same,
+      are.are (2 * k) (omega (arith, lt)),
+      cost_small s (2 * k) p,
+    )

@@ -15,7 +15,8 @@ use Rattle.row_paths.specs.Searches.{bound_at, LeadsDown, LeadsRight, StaysIn, H
 use Rattle.row_paths.proofs.Places.{first_at, regional_at}
 
 -- a word is traced up to a row and a column: where it entered the rows so far, and the rest of it
-pub record IsTraced (a : Arcs) (lo hi : ℕ → ℕ) (n start end : ℕ) (word : List Step) (path : List ℕ) (row col : ℕ) : Type 0 where
+pub record IsTraced (a : Arcs) (lo hi : ℕ → ℕ) (n start end : ℕ) (word : List Step) (path : List ℕ) (row col : ℕ) : Type
+    0 where
   pub front : List Step
   pub back : List Step
   pub joins : word ≡ front ++ back
@@ -29,7 +30,9 @@ pub record IsTraced (a : Arcs) (lo hi : ℕ → ℕ) (n start end : ℕ) (word :
   pub rest : (x : ℕ) → row < x → x < length path → get_or path x 0 ≡ n
 
 -- at the start
-pub traced_none : (a : Arcs) (lo hi : ℕ → ℕ) (n start end : ℕ) (word : List Step) (path : List ℕ) → start ≤ end → IsFirst a start 0 (end - start) n word → IsWithin lo hi start 0 word → ((x : ℕ) → x ≤ start → get_or path x 0 ≡ 0) → ((x : ℕ) → start < x → x < length path → get_or path x 0 ≡ n) → IsTraced a lo hi n start end word path start 0
+pub traced_none : (a : Arcs) (lo hi : ℕ → ℕ) (n start end : ℕ) (word : List Step) (path : List ℕ) → start ≤ end
+    → IsFirst a start 0 (end - start) n word → IsWithin lo hi start 0 word → ((x : ℕ) → x ≤ start → get_or path x 0 ≡ 0)
+    → ((x : ℕ) → start < x → x < length path → get_or path x 0 ≡ n) → IsTraced a lo hi n start end word path start 0
 traced_none a lo hi n start end word path le f k none rest = record {
   front = [];
   back = word;
@@ -45,7 +48,9 @@ traced_none a lo hi n start end word path le f k none rest = record {
 }
 
 -- one more letter V, and one more letter H
-pub traced_down : (a : Arcs) (lo hi : ℕ → ℕ) (n start end : ℕ) (word : List Step) (path : List ℕ) (row col : ℕ) → IsTraced a lo hi n start end word path row col → LeadsDown a lo hi end n row col → row + 1 < length path → IsTraced a lo hi n start end word (set path (row + 1) col) (row + 1) col
+pub traced_down : (a : Arcs) (lo hi : ℕ → ℕ) (n start end : ℕ) (word : List Step) (path : List ℕ) (row col : ℕ)
+    → IsTraced a lo hi n start end word path row col → LeadsDown a lo hi end n row col → row + 1 < length path
+    → IsTraced a lo hi n start end word (set path (row + 1) col) (row + 1) col
 traced_down a lo hi n start end word path row col t d fits =
     let k = d.goes t.back t.first t.within in
     let e : word ≡ t.front ++ V ∷ k.rest = t.joins ∙ ap (λ (w : List Step). t.front ++ w) k.is in
@@ -64,13 +69,23 @@ traced_down a lo hi n start end word path row col t d fits =
         | inr ge ↦ (let same : x ≡ row + 1 = omega arith in
             let next = entry-next start 0 t.front k.rest in
             let at : start + count_v t.front + 1 ≡ row + 1 = omega (arith, t.v) in
-            let is : col ≡ entry start 0 word (row + 1) = omega (arith, next, t.h, ap (λ (w : List Step). entry start 0 w (row + 1)) e, ap (entry start 0 (t.front ++ V ∷ k.rest)) at) in
+            let is : col ≡ entry start 0 word (row + 1) =
+            omega (
+              arith,
+              next,
+              t.h,
+              ap (λ (w : List Step). entry start 0 w (row + 1)) e,
+              ap (entry start 0 (t.front ++ V ∷ k.rest)) at,
+            ) in
             rw (same, get_or-set_same) is)
       ];
-      rest = λ x lt le. let ne : x ≢ row + 1 = omega arith in rw get_or-set_other (t.rest x (omega arith) (omega (arith, length-set path (row + 1) col, le)));
+      rest = λ x lt le. let ne : x ≢ row + 1 = omega arith in
+          rw get_or-set_other (t.rest x (omega arith) (omega (arith, length-set path (row + 1) col, le)));
     }
 
-pub traced_right : (a : Arcs) (lo hi : ℕ → ℕ) (n start end : ℕ) (word : List Step) (path : List ℕ) (row col : ℕ) → IsTraced a lo hi n start end word path row col → LeadsRight a lo hi end n row col → IsTraced a lo hi n start end word path row (col + 1)
+pub traced_right : (a : Arcs) (lo hi : ℕ → ℕ) (n start end : ℕ) (word : List Step) (path : List ℕ) (row col : ℕ)
+    → IsTraced a lo hi n start end word path row col → LeadsRight a lo hi end n row col
+    → IsTraced a lo hi n start end word path row (col + 1)
 traced_right a lo hi n start end word path row col t d =
     let k = d.goes t.back t.first t.within in
     let e : word ≡ t.front ++ H ∷ k.rest = t.joins ∙ ap (λ (w : List Step). t.front ++ w) k.is in
@@ -89,26 +104,41 @@ traced_right a lo hi n start end word path row col t d =
     }
 
 -- at the end all entries are there
-pub traced_all : (a : Arcs) (lo hi : ℕ → ℕ) (n start end : ℕ) (word : List Step) (path : List ℕ) → start ≤ end → end + 1 < length path → IsFirst a start 0 (end - start) n word → IsTraced a lo hi n start end word path end n → HasEntries a n start end path
+pub traced_all : (a : Arcs) (lo hi : ℕ → ℕ) (n start end : ℕ) (word : List Step) (path : List ℕ) → start ≤ end
+    → end + 1 < length path → IsFirst a start 0 (end - start) n word → IsTraced a lo hi n start end word path end n
+    → HasEntries a n start end path
 traced_all a lo hi n start end word path le fits f t w g x =
     let same = only_canonical a start 0 (end - start) n w word g f in
     at (cases_lt end x) ∙ ap (λ (u : List Step). entry start 0 u x) (sym same)
   where
     at : (end < x) ⊎ (x ≤ end) → bound_at path x ≡ entry start 0 word x
-    at (inl lt) = omega (arith, t.rest (min x (length path - 1)) (omega arith) (omega arith), entry-end start 0 word x (omega (arith, f.letters.v)), f.letters.h)
-    at (inr ge) = let e : min x (length path - 1) ≡ x = omega arith in omega (arith, ap (λ (k : ℕ). get_or path k 0) e, t.entries x ge)
+    at (inl lt) = omega (
+      arith,
+      t.rest (min x (length path - 1)) (omega arith) (omega arith),
+      entry-end start 0 word x (omega (arith, f.letters.v)),
+      f.letters.h,
+    )
+    at (inr ge) = let e : min x (length path - 1) ≡ x = omega arith in
+        omega (arith, ap (λ (k : ℕ). get_or path k 0) e, t.entries x ge)
 
 -- the list and the place may be written in another way
-pub traced_same : (a : Arcs) (lo hi : ℕ → ℕ) (n start end : ℕ) (word : List Step) (path path' : List ℕ) (row row' col col' : ℕ) → path' ≡ path → row' ≡ row → col' ≡ col → IsTraced a lo hi n start end word path row col → IsTraced a lo hi n start end word path' row' col'
+pub traced_same : (a : Arcs) (lo hi : ℕ → ℕ) (n start end : ℕ) (word : List Step) (path path' : List ℕ)
+    (row row' col col' : ℕ) → path' ≡ path → row' ≡ row → col' ≡ col → IsTraced a lo hi n start end word path row col
+    → IsTraced a lo hi n start end word path' row' col'
 traced_same a lo hi n start end word path path' row row' col col' e f d t =
-    subst (λ (p : List ℕ). IsTraced a lo hi n start end word p row' col') (sym e) (subst₂ (λ (x y : ℕ). IsTraced a lo hi n start end word path x y) (sym f) (sym d) t)
+    subst (λ (p : List ℕ). IsTraced a lo hi n start end word p row' col') (sym e)
+    (subst₂ (λ (x y : ℕ). IsTraced a lo hi n start end word path x y) (sym f) (sym d) t)
 
 -- the cost from the first place of a region that the canonical word stays in
-pub found_cost : (a : Arcs) (lo hi : ℕ → ℕ) (end n start cost : ℕ) → (lo start ≡ 0 → IsRegional a lo hi start 0 (end - start) (n - 0) cost) → StaysIn a lo hi n start end → cost ≡ distance a start 0 (end - start) n
+pub found_cost : (a : Arcs) (lo hi : ℕ → ℕ) (end n start cost : ℕ)
+    → (lo start ≡ 0 → IsRegional a lo hi start 0 (end - start) (n - 0) cost) → StaysIn a lo hi n start end
+    → cost ≡ distance a start 0 (end - start) n
 found_cost a lo hi end n start cost f stays =
     let k = canonical a start 0 (end - start) n in
     let inside = within_start lo hi start 0 k.word (stays k.word k.first) in
-    regional_is_least a lo hi start 0 (end - start) n cost k.word (regional_at a lo hi start 0 (end - start) (end - start) (n - 0) n cost refl (omega arith) (f (omega (arith, inside.from)))) k.first (stays k.word k.first)
+    regional_is_least a lo hi start 0 (end - start) n cost k.word
+    (regional_at a lo hi start 0 (end - start) (end - start) (n - 0) n cost refl (omega arith)
+    (f (omega (arith, inside.from)))) k.first (stays k.word k.first)
 
 -- a word is spelled up to a row and a column
 pub record IsSpelled (a : Arcs) (lo hi : ℕ → ℕ) (n start end : ℕ) (word so_far : List Step) (row col : ℕ) : Type 0 where
@@ -121,12 +151,15 @@ pub record IsSpelled (a : Arcs) (lo hi : ℕ → ℕ) (n start end : ℕ) (word 
   pub first : IsFirst a row col (end - row) (n - col) back
   pub within : IsWithin lo hi row col back
 
-pub spelled_down : (a : Arcs) (lo hi : ℕ → ℕ) (n start end : ℕ) (word so_far more : List Step) (row col : ℕ) → more ≡ so_far ++ V ∷ [] → IsSpelled a lo hi n start end word so_far row col → LeadsDown a lo hi end n row col → IsSpelled a lo hi n start end word more (row + 1) col
+pub spelled_down : (a : Arcs) (lo hi : ℕ → ℕ) (n start end : ℕ) (word so_far more : List Step) (row col : ℕ)
+    → more ≡ so_far ++ V ∷ [] → IsSpelled a lo hi n start end word so_far row col → LeadsDown a lo hi end n row col
+    → IsSpelled a lo hi n start end word more (row + 1) col
 spelled_down a lo hi n start end word so_far more row col is t d =
     let k = d.goes t.back t.first t.within in
     record {
       back = k.rest;
-      joins = t.joins ∙ ap (λ (w : List Step). so_far ++ w) k.is ∙ sym (append_assoc so_far (V ∷ []) k.rest) ∙ sym (ap (λ (w : List Step). w ++ k.rest) is);
+      joins = t.joins ∙ ap (λ (w : List Step). so_far ++ w) k.is ∙ sym (append_assoc so_far (V ∷ []) k.rest)
+          ∙ sym (ap (λ (w : List Step). w ++ k.rest) is);
       v = omega (arith, count_v-append so_far (V ∷ []), ap count_v is, t.v);
       h = omega (arith, count_h-append so_far (V ∷ []), ap count_h is, t.h);
       above = omega (arith, d.row);
@@ -135,12 +168,15 @@ spelled_down a lo hi n start end word so_far more row col is t d =
       within = k.within;
     }
 
-pub spelled_right : (a : Arcs) (lo hi : ℕ → ℕ) (n start end : ℕ) (word so_far more : List Step) (row col : ℕ) → more ≡ so_far ++ H ∷ [] → IsSpelled a lo hi n start end word so_far row col → LeadsRight a lo hi end n row col → IsSpelled a lo hi n start end word more row (col + 1)
+pub spelled_right : (a : Arcs) (lo hi : ℕ → ℕ) (n start end : ℕ) (word so_far more : List Step) (row col : ℕ)
+    → more ≡ so_far ++ H ∷ [] → IsSpelled a lo hi n start end word so_far row col → LeadsRight a lo hi end n row col
+    → IsSpelled a lo hi n start end word more row (col + 1)
 spelled_right a lo hi n start end word so_far more row col is t d =
     let k = d.goes t.back t.first t.within in
     record {
       back = k.rest;
-      joins = t.joins ∙ ap (λ (w : List Step). so_far ++ w) k.is ∙ sym (append_assoc so_far (H ∷ []) k.rest) ∙ sym (ap (λ (w : List Step). w ++ k.rest) is);
+      joins = t.joins ∙ ap (λ (w : List Step). so_far ++ w) k.is ∙ sym (append_assoc so_far (H ∷ []) k.rest)
+          ∙ sym (ap (λ (w : List Step). w ++ k.rest) is);
       v = omega (arith, count_v-append so_far (H ∷ []), ap count_v is, t.v);
       h = omega (arith, count_h-append so_far (H ∷ []), ap count_h is, t.h);
       above = t.above;
@@ -150,8 +186,12 @@ spelled_right a lo hi n start end word so_far more row col is t d =
     }
 
 -- no letter is left at the end
-pub spelled_all : (a : Arcs) (lo hi : ℕ → ℕ) (n start end : ℕ) (word so_far : List Step) (row col : ℕ) → row ≡ end → col ≡ n → IsFirst a start 0 (end - start) n word → IsSpelled a lo hi n start end word so_far row col → IsFirst a start 0 (end - start) n so_far
-spelled_all a lo hi n start end word so_far row col e f first t = subst (IsFirst a start 0 (end - start) n) (t.joins ∙ ap (λ (w : List Step). so_far ++ w) (none t.back t.first) ∙ append-nil so_far) first
+pub spelled_all : (a : Arcs) (lo hi : ℕ → ℕ) (n start end : ℕ) (word so_far : List Step) (row col : ℕ) → row ≡ end
+    → col ≡ n → IsFirst a start 0 (end - start) n word → IsSpelled a lo hi n start end word so_far row col
+    → IsFirst a start 0 (end - start) n so_far
+spelled_all a lo hi n start end word so_far row col e f first t =
+    subst (IsFirst a start 0 (end - start) n)
+    (t.joins ∙ ap (λ (w : List Step). so_far ++ w) (none t.back t.first) ∙ append-nil so_far) first
   where
     none : (back : List Step) → IsFirst a row col (end - row) (n - col) back → back ≡ []
     none [] k = refl

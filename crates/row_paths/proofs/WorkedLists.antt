@@ -24,7 +24,8 @@ read_costs = (refl, refl, refl)
 
 -- ---- lists of columns
 
-bounds : (bound_at (5 ∷ 7 ∷ []) 0 ≡ 5) × (bound_at (5 ∷ 7 ∷ []) 1 ≡ 7) × (bound_at (5 ∷ 7 ∷ []) 9 ≡ 7) × (last_at (5 ∷ 7 ∷ 8 ∷ []) 0 ≡ 7) × (last_at (5 ∷ 7 ∷ 8 ∷ []) 2 ≡ 8)
+bounds : (bound_at (5 ∷ 7 ∷ []) 0 ≡ 5) × (bound_at (5 ∷ 7 ∷ []) 1 ≡ 7) × (bound_at (5 ∷ 7 ∷ []) 9 ≡ 7)
+    × (last_at (5 ∷ 7 ∷ 8 ∷ []) 0 ≡ 7) × (last_at (5 ∷ 7 ∷ 8 ∷ []) 2 ≡ 8)
 bounds = (refl, refl, refl, refl, refl)
 
 between : (area_between 2 (0 ∷ 0 ∷ 0 ∷ 1 ∷ 3 ∷ []) (0 ∷ 2 ∷ 3 ∷ 3 ∷ 3 ∷ []) 0 1 ≡ 14)

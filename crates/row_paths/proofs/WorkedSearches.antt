@@ -25,7 +25,8 @@ even_sum i j (V ∷ w) = omega (arith, even_sum (i + 1) j w)
 even_sum i j (H ∷ w) = omega (arith, even_sum i (j + 1) w)
 
 even_distance : (i j r c : ℕ) → distance even i j r c ≡ r + c
-even_distance i j r c = let k = distance-reached even i j r c in omega (arith, k.cost, even_sum i j k.word, k.letters.v, k.letters.h)
+even_distance i j r c = let k = distance-reached even i j r c in
+    omega (arith, k.cost, even_sum i j k.word, k.letters.v, k.letters.h)
 
 -- all its places
 abbrev first_column : ℕ → ℕ
@@ -35,10 +36,21 @@ abbrev last_column : ℕ → ℕ
 last_column x = 1
 
 whole : IsRegion first_column last_column 1 1
-whole = record { rises = λ x. omega arith; joined = λ x. omega arith; sinks = λ x. omega arith; within = λ x. omega arith; ends = refl }
+whole = record {
+  rises = λ x. omega arith;
+  joined = λ x. omega arith;
+  sinks = λ x. omega arith;
+  within =
+      λ x. omega arith;
+  ends = refl;
+}
 
 regional : (i j r c : ℕ) → IsRegional even first_column last_column i j r c (r + c)
-regional i j r c = record { least = omega (arith, even_distance i j r c); within = λ w l t. omega (arith, even_sum i j w, l.v, l.h) }
+regional i j r c = record {
+  least = omega (arith, even_distance i j r c);
+  within =
+      λ w l t. omega (arith, even_sum i j w, l.v, l.h);
+}
 
 place_cost : (end n x c : ℕ) → IsPlaceCost 1 even first_column last_column end n x c (end - x + (n - c))
 place_cost end n x c = record { regional = regional x c (end - x) (n - c); small = omega arith }
@@ -84,15 +96,18 @@ starts_there (suc (suc y)) from to e = absurd (omega (arith, to))
 down_0 : LeadsDown even first_column last_column 1 1 0 0
 down_0 = record { row = lit< tt; goes = goes }
   where
-    goes : (w : List Step) → IsFirst even 0 0 1 1 w → IsWithin first_column last_column 0 0 w → GoesV even first_column last_column 0 0 0 1 w
+    goes : (w : List Step) → IsFirst even 0 0 1 1 w → IsWithin first_column last_column 0 0 w
+        → GoesV even first_column last_column 0 0 0 1 w
     goes [] f t = absurd (omega (arith, f.letters.v))
     goes (V ∷ w) f t = record { rest = w; is = refl; first = (tail_v even 0 0 0 1 w f).1; within = t.1 }
-    goes (H ∷ w) f t = absurd (f.first (V ∷ H ∷ []) (record { v = refl; h = refl }) (omega (arith, even_distance 0 0 1 1)))
+    goes (H ∷ w) f t = absurd (f.first (V ∷ H ∷ []) (record { v = refl; h = refl })
+        (omega (arith, even_distance 0 0 1 1)))
 
 down_1 : LeadsDown even first_column last_column 1 1 0 1
 down_1 = record { row = lit< tt; goes = goes }
   where
-    goes : (w : List Step) → IsFirst even 0 1 1 0 w → IsWithin first_column last_column 0 1 w → GoesV even first_column last_column 0 1 0 0 w
+    goes : (w : List Step) → IsFirst even 0 1 1 0 w → IsWithin first_column last_column 0 1 w
+        → GoesV even first_column last_column 0 1 0 0 w
     goes [] f t = absurd (omega (arith, f.letters.v))
     goes (V ∷ w) f t = record { rest = w; is = refl; first = (tail_v even 0 1 0 0 w f).1; within = t.1 }
     goes (H ∷ w) f t = absurd (omega (arith, f.letters.h))
@@ -100,7 +115,8 @@ down_1 = record { row = lit< tt; goes = goes }
 right_0 : LeadsRight even first_column last_column 1 1 1 0
 right_0 = record { col = lit< tt; goes = goes }
   where
-    goes : (w : List Step) → IsFirst even 1 0 0 1 w → IsWithin first_column last_column 1 0 w → GoesH even first_column last_column 1 0 0 0 w
+    goes : (w : List Step) → IsFirst even 1 0 0 1 w → IsWithin first_column last_column 1 0 w
+        → GoesH even first_column last_column 1 0 0 0 w
     goes [] f t = absurd (omega (arith, f.letters.h))
     goes (V ∷ w) f t = absurd (omega (arith, f.letters.v))
     goes (H ∷ w) f t = record { rest = w; is = refl; first = (tail_h even 1 0 0 0 w f).1; within = t.1 }
@@ -135,28 +151,42 @@ stays (V ∷ []) f = absurd (omega (arith, f.letters.h))
 stays (V ∷ V ∷ w) f = absurd (omega (arith, f.letters.v))
 stays (V ∷ H ∷ V ∷ w) f = absurd (omega (arith, f.letters.v))
 stays (V ∷ H ∷ H ∷ w) f = absurd (omega (arith, f.letters.h))
-stays (V ∷ H ∷ []) f = (record { from = lit≤ tt; to = lit≤ tt }, (record { from = lit≤ tt; to = lit≤ tt }, record { from = lit≤ tt; to = lit≤ tt }))
+stays (V ∷ H ∷ []) f = (
+  record { from = lit≤ tt; to = lit≤ tt },
+  (record { from = lit≤ tt; to = lit≤ tt }, record { from = lit≤ tt; to = lit≤ tt }),
+)
 
 past : (x : ℕ) → entry 0 0 (V ∷ H ∷ []) (suc (suc x)) ≡ 1
-past x = test_no (suc (suc x)) 0 0 (entry 1 0 (H ∷ []) (suc (suc x))) (omega arith) ∙ test_no (suc (suc x)) 1 0 1 (omega arith)
+past x = test_no (suc (suc x)) 0 0 (entry 1 0 (H ∷ []) (suc (suc x))) (omega arith)
+    ∙ test_no (suc (suc x)) 1 0 1 (omega arith)
 
 -- it enters rows 0 and 1 in column 0, and is in column 1 past its end
 entries : HasEntries even 1 0 1 (0 ∷ 0 ∷ 1 ∷ [])
 entries [] f x = absurd (omega (arith, f.letters.v))
-entries (H ∷ w) f x = absurd (f.first (V ∷ H ∷ []) (record { v = refl; h = refl }) (omega (arith, even_distance 0 0 1 1)))
+entries (H ∷ w) f x = absurd (f.first (V ∷ H ∷ []) (record { v = refl; h = refl })
+    (omega (arith, even_distance 0 0 1 1)))
 entries (V ∷ []) f x = absurd (omega (arith, f.letters.h))
 entries (V ∷ V ∷ w) f x = absurd (omega (arith, f.letters.v))
 entries (V ∷ H ∷ V ∷ w) f x = absurd (omega (arith, f.letters.v))
 entries (V ∷ H ∷ H ∷ w) f x = absurd (omega (arith, f.letters.h))
 entries (V ∷ H ∷ []) f zero = refl
 entries (V ∷ H ∷ []) f (suc zero) = refl
-entries (V ∷ H ∷ []) f (suc (suc x)) = let e : min (suc (suc x)) 2 ≡ 2 = omega arith in ap (slice_index (0 ∷ 0 ∷ 1 ∷ [])) e ∙ sym (past x)
+entries (V ∷ H ∷ []) f (suc (suc x)) = let e : min (suc (suc x)) 2 ≡ 2 = omega arith in
+    ap (slice_index (0 ∷ 0 ∷ 1 ∷ [])) e ∙ sym (past x)
 
 path : IsPathOf even 1 1 0 (0 ∷ 0 ∷ 1 ∷ [])
 path = entries
 
 row_0 : IsRowCosts 1 even 1 0 (1 ∷ 1 ∷ []) (1 ∷ [])
-row_0 = record { downs_count = lit< tt; rights_count = lit≤ tt; downs_are = downs; rights_are = rights; downs_small = downs_small; rights_small = rights_small }
+row_0 = record {
+  downs_count = lit< tt;
+  rights_count = lit≤ tt;
+  downs_are = downs;
+  rights_are = rights;
+  downs_small =
+      downs_small;
+  rights_small = rights_small;
+}
   where
     downs : (c : ℕ) → c ≤ 1 → slice_index (1 ∷ 1 ∷ []) c ≡ 1
     downs zero l = refl

@@ -13,7 +13,13 @@ use Rattle.strip_graph.proofs.Worked.{corner}
 use Rattle.row_paths.specs.StripCosts.{AreDowns, AreRights, AreRightsOf, AreStripCosts}
 
 abbrev two_under_one : Strip
-two_under_one = record { low = corner 0 0 0 ∷ corner 1 0 0 ∷ []; low_ids = []; high = corner 0 0 2 ∷ []; high_ids = []; cost = Span }
+two_under_one = record {
+  low = corner 0 0 0 ∷ corner 1 0 0 ∷ [];
+  low_ids = [];
+  high = corner 0 0 2 ∷ [];
+  high_ids = [];
+  cost = Span;
+}
 
 costs_of_v : AreDowns 5 two_under_one (5 ∷ 5 ∷ 4 ∷ 4 ∷ [])
 unfolding arcs around distance_square square
@@ -49,8 +55,12 @@ costs_of_h = record { count = refl; first = record { are = are; small = small } 
     small (suc zero) l = omega arith
     small (suc (suc k)) l = absurd (omega (arith, l))
 
-all_costs : AreStripCosts 5 two_under_one (5 ∷ 5 ∷ 4 ∷ 4 ∷ []) (Some (4 ∷ 5 ∷ [])) × AreStripCosts 5 two_under_one (5 ∷ 5 ∷ 4 ∷ 4 ∷ []) None
-all_costs = (record { by_v = costs_of_v; by_h = costs_of_h }, record { by_v = costs_of_v; by_h = arcs_by_place two_under_one tt })
+all_costs : AreStripCosts 5 two_under_one (5 ∷ 5 ∷ 4 ∷ 4 ∷ []) (Some (4 ∷ 5 ∷ []))
+    × AreStripCosts 5 two_under_one (5 ∷ 5 ∷ 4 ∷ 4 ∷ []) None
+all_costs = (
+  record { by_v = costs_of_v; by_h = costs_of_h },
+  record { by_v = costs_of_v; by_h = arcs_by_place two_under_one tt },
+)
 
 -- under a rule of areas H has its own costs
 own_costs : AreRightsOf 5 (record two_under_one { cost = Area }) None → ⊥

@@ -32,13 +32,15 @@ fed_after [] b = refl
 fed_after (x ∷ a) b =
     let whole = fed_lines (a ++ 10 ∷ b) in
     let front = fed_lines (a ++ 10 ∷ []) in
-    elim (is_feed x) as (λ c. (if c then [] ∷ whole else onto_first x whole) ≡ (if c then [] ∷ front else onto_first x front) ++ fed_lines b) [
+    elim (is_feed x) as (λ c. (if c then [] ∷ whole else onto_first x whole)
+    ≡ (if c then [] ∷ front else onto_first x front) ++ fed_lines b) [
       | true ↦ ap (λ (ls : List (List ℕ)). [] ∷ ls) (fed_after a b)
       | false ↦ ap (onto_first x) (fed_after a b) ∙ onto_front x front (fed_lines b) (some_line a)
     ]
 
 lines_after : (a b : List ℕ) → lines (a ++ 10 ∷ b) ≡ lines (a ++ 10 ∷ []) ++ lines b
-lines_after a b = ap (map without_return) (fed_after a b) ∙ map-append without_return (fed_lines (a ++ 10 ∷ [])) (fed_lines b)
+lines_after a b = ap (map without_return) (fed_after a b)
+    ∙ map-append without_return (fed_lines (a ++ 10 ∷ [])) (fed_lines b)
 
 -- ---- the kept lines
 kept_next : (n : ℕ) (ls ms : List (List ℕ)) → kept_from n (ls ++ ms) ≡ kept_from n ls ++ kept_from (n + length ls) ms
@@ -46,22 +48,29 @@ kept_next n [] ms = ap (λ (k : ℕ). kept_from k ms) (omega arith)
 kept_next n (l ∷ ls) ms =
     let back = kept_from (n + suc (length ls)) ms in
     let more = kept_from (n + 1) ls in
-    let next : kept_from (n + 1) (ls ++ ms) ≡ more ++ back = kept_next (n + 1) ls ms ∙ ap (λ (k : ℕ). more ++ kept_from k ms) (omega arith) in
-    elim (is_kept (words l)) as (λ b. (if b then (n, words l) ∷ kept_from (n + 1) (ls ++ ms) else kept_from (n + 1) (ls ++ ms)) ≡ (if b then (n, words l) ∷ more else more) ++ back) [
+    let next : kept_from (n + 1) (ls ++ ms) ≡ more ++ back = kept_next (n + 1) ls ms
+    ∙ ap (λ (k : ℕ). more ++ kept_from k ms) (omega arith) in
+    elim (is_kept (words l)) as (λ b. (if b then (n, words l)
+    ∷ kept_from (n + 1) (ls ++ ms) else kept_from (n + 1) (ls ++ ms)) ≡ (if b then (n, words l) ∷ more else more)
+    ++ back) [
       | true ↦ ap (λ (ks : List Kept). (n, words l) ∷ ks) next
       | false ↦ next
     ]
 
-kept_after : (text more : List ℕ) → EndsLine text → kept_lines (text ++ more) ≡ kept_lines text ++ kept_behind (length (lines text)) more
+kept_after : (text more : List ℕ) → EndsLine text
+    → kept_lines (text ++ more) ≡ kept_lines text ++ kept_behind (length (lines text)) more
 kept_after text more ends =
     let a = ends.0 in
     let same : text ≡ a ++ 10 ∷ [] = ends.1 in
     let whole : lines (text ++ more) ≡ lines text ++ lines more =
-    ap (λ (t : List ℕ). lines (t ++ more)) same ∙ ap lines (append_assoc a (10 ∷ []) more) ∙ lines_after a more ∙ ap (λ (t : List ℕ). lines t ++ lines more) (sym same) in
-    ap (kept_from 1) whole ∙ kept_next 1 (lines text) (lines more) ∙ ap (λ (k : ℕ). kept_lines text ++ kept_from k (lines more)) (omega arith)
+    ap (λ (t : List ℕ). lines (t ++ more)) same ∙ ap lines (append_assoc a (10 ∷ []) more) ∙ lines_after a more
+    ∙ ap (λ (t : List ℕ). lines t ++ lines more) (sym same) in
+    ap (kept_from 1) whole ∙ kept_next 1 (lines text) (lines more)
+    ∙ ap (λ (k : ℕ). kept_lines text ++ kept_from k (lines more)) (omega arith)
 
 -- the front of such a text
-pub front_of : (text more : List ℕ) (F : FileParts) → EndsLine text → IsTextOfFile text F → IsFront (text ++ more) (F, kept_behind (length (lines text)) more)
+pub front_of : (text more : List ℕ) (F : FileParts) → EndsLine text → IsTextOfFile text F
+    → IsFront (text ++ more) (F, kept_behind (length (lines text)) more)
 front_of text more F ends is =
     let h = is.0 in
     let tail = kept_behind (length (lines text)) more in (

@@ -36,10 +36,12 @@ same_pair ps j k p q e is has =
     let place : is.place ≡ has.place = omega (arith, e, is.counted, has.counted) in
     same_Some p q (sym is.there ∙ ap (slice_get ps) place ∙ has.there)
 
-pub no_such : (ps : List PairParts) (j k : ℕ) (p : PairParts) (f : Fault) → j ≡ k → IsNoPair ps j f → IsPairOf ps k p → ⊥
+pub no_such : (ps : List PairParts) (j k : ℕ) (p : PairParts) (f : Fault) → j ≡ k → IsNoPair ps j f → IsPairOf ps k p
+    → ⊥
 no_such ps j k p f e none has = omega (arith, e, none.0, has.counted, slice_get_within ps has.place p has.there)
 
-agree_pairs : (ps : List PairParts) (j k : ℕ) → j ≡ k → (R Q : PairParts → Reply → Type 0) → ((p : PairParts) → Agree (R p) (Q p)) → Agree (on_pair ps j R) (on_pair ps k Q)
+agree_pairs : (ps : List PairParts) (j k : ℕ) → j ≡ k → (R Q : PairParts → Reply → Type 0)
+    → ((p : PairParts) → Agree (R p) (Q p)) → Agree (on_pair ps j R) (on_pair ps k Q)
 agree_pairs ps j k e R Q agree r s t u (fails f h) (fails g m) = ap refused (h.1 ∙ ap (λ (n : ℕ). NoPair n) e ∙ sym m.1)
 agree_pairs ps j k e R Q agree r s t u (fails f h) (goes_on q y has m) = absurd (no_such ps j k q f e h has)
 agree_pairs ps j k e R Q agree r s t u (goes_on p x is h) (fails g m) = absurd (no_such ps k j p g (sym e) m is)
@@ -58,7 +60,8 @@ place_of : (w k i : ℕ) → i < k * w → Place w k i
 place_of w zero i l = absurd (omega (arith, l))
 place_of w (suc k) i l =
     elim (below i (k * w)) [
-      | inl less ↦ let p = place_of w k i less in record { row = p.row; col = p.col; inside = omega (arith, p.inside); narrow = p.narrow; at = p.at }
+      | inl less ↦ let p = place_of w k i less in
+          record { row = p.row; col = p.col; inside = omega (arith, p.inside); narrow = p.narrow; at = p.at }
       | inr more ↦ record { row = k; col = more.0; inside = omega arith; narrow = last more.0 more.1; at = sym more.1 }
     ]
   where
@@ -84,34 +87,46 @@ same_values p k xs ys h m =
     (λ i l.
     let a = place_of (cols p + 1) k i (omega (arith, l, h.count)) in
     let narrow : a.col < cols p + 1 = a.narrow in
-    let same : value_at (cols p) xs a.row a.col ≡ value_at (cols p) ys a.row a.col = h.are a.row a.col a.inside (omega (arith, narrow)) ∙ sym (m.are a.row a.col a.inside (omega (arith, narrow))) in
+    let same : value_at (cols p) xs a.row a.col ≡ value_at (cols p) ys a.row a.col =
+    h.are a.row a.col a.inside (omega (arith, narrow)) ∙ sym (m.are a.row a.col a.inside (omega (arith, narrow))) in
     subst (λ (n : ℕ). slice_index_or xs n (pos 0) ≡ slice_index_or ys n (pos 0)) a.at same)
 
 one_tells_cert : (k : ℕ) (p : Strip) (s : Solution) → IsOne (TellsCert k p s)
 one_tells_cert k p s r q t u h m =
     agree_tells (cert_text (certificate k p s h.values)) (cert_text (certificate k p s m.values)) 1 1
-    (ap (λ (values : List ℤ). cert_text (certificate k p s values)) (same_values p (2 * rows p) h.values m.values h.potential m.potential)) refl r q t u h.tells m.tells
+    (ap (λ (values : List ℤ). cert_text (certificate k p s values))
+    (same_values p (2 * rows p) h.values m.values h.potential m.potential)) refl r q t u h.tells m.tells
 
-one_solution : (p : Strip) (rule : Solution → Reply → Type 0) → ((s : Solution) → IsOne (rule s)) → IsOne (on_solution p rule)
-one_solution p rule inner = one_stage NoFault (Solves p) rule (λ f g t u h k. absurd h) (λ x f t is h. h) (λ s t is has. solves_unique p s t is has) (λ s is. inner s)
+one_solution : (p : Strip) (rule : Solution → Reply → Type 0) → ((s : Solution) → IsOne (rule s))
+    → IsOne (on_solution p rule)
+one_solution p rule inner = one_stage NoFault (Solves p) rule (λ f g t u h k. absurd h) (λ x f t is h. h)
+    (λ s t is has. solves_unique p s t is has) (λ s is. inner s)
 
 pub one_certify : (k : ℕ) (F : FileParts) → IsOne (certify k F)
-one_certify k F = one_numbered F _ (λ ps. agree_pairs ps k k refl _ _ (λ p. one_solution p.strip (TellsCert k p.strip) (λ s. one_tells_cert k p.strip s)))
+one_certify k F = one_numbered F _
+    (λ ps. agree_pairs ps k k refl _ _
+    (λ p. one_solution p.strip (TellsCert k p.strip) (λ s. one_tells_cert k p.strip s)))
 
 -- a text of a certificate has one reading, or one fault
-one_cert_fault : (tail : List Kept) (last : ℕ) (f g : Fault) → IsToldFault f → IsToldFault g → IsCertFault tail last f → IsCertFault tail last g → f ≡ g
+one_cert_fault : (tail : List Kept) (last : ℕ) (f g : Fault) → IsToldFault f → IsToldFault g → IsCertFault tail last f
+    → IsCertFault tail last g → f ≡ g
 one_cert_fault tail last f g t u h k = h.2 ∙ ap (λ (l : ℕ). CertForm l) (one_fault tail last h.0 k.0 h.1 k.1) ∙ sym k.2
 
-pub cert_or_fault : (tail : List Kept) (last : ℕ) (C : CertParts) (f : Fault) → IsToldFault f → ReadsAsCertificate tail C → IsCertFault tail last f → ⊥
+pub cert_or_fault : (tail : List Kept) (last : ℕ) (C : CertParts) (f : Fault) → IsToldFault f
+    → ReadsAsCertificate tail C → IsCertFault tail last f → ⊥
 cert_or_fault tail last C f t is h = no_fault tail last h.0 C is h.1
 
-one_certs : (last : ℕ) (tail : List Kept) (rule : CertText → Reply → Type 0) → ((c d : CertText) → certificate_parts c ≡ certificate_parts d → Agree (rule c) (rule d)) → IsOne (on_cert last tail rule)
+one_certs : (last : ℕ) (tail : List Kept) (rule : CertText → Reply → Type 0)
+    → ((c d : CertText) → certificate_parts c ≡ certificate_parts d → Agree (rule c) (rule d))
+    → IsOne (on_cert last tail rule)
 one_certs last tail rule agree =
-    one_then (IsCertFault tail last) (λ c. ReadsAsCertificate tail (certificate_parts c)) rule (one_cert_fault tail last) (λ c. cert_or_fault tail last (certificate_parts c))
+    one_then (IsCertFault tail last) (λ c. ReadsAsCertificate tail (certificate_parts c)) rule
+    (one_cert_fault tail last) (λ c. cert_or_fault tail last (certificate_parts c))
     (λ c d is has. agree c d (reads_one tail (certificate_parts c) (certificate_parts d) is has))
 
 -- a verdict is one on the certificate as plain data
-same_fits : (p : Strip) (c d : CertText) → certificate_parts c ≡ certificate_parts d → FitsPair p c.cert → FitsPair p d.cert
+same_fits : (p : Strip) (c d : CertText) → certificate_parts c ≡ certificate_parts d → FitsPair p c.cert
+    → FitsPair p d.cert
 same_fits p c d e h = record {
   rows_same = subst (λ (C : CertParts). C.head.rows ≡ rows p) e h.rows_same;
   cols_same = subst (λ (C : CertParts). C.head.cols ≡ cols p) e h.cols_same;
@@ -132,12 +147,24 @@ ArcHolds p C i j s = StepHolds (arcs p) (rows p) (cols p) C.values i j s
 abbrev Turns : Strip → CertParts → ℕ → Type 0
 Turns p C = TurnHolds (rows p) (cols p) C.values C.head.cost
 
-same_verdict : (p : Strip) (c d : CertText) → certificate_parts c ≡ certificate_parts d → (v : Verdict) → IsVerdict p c.cert v → IsVerdict p d.cert v
-same_verdict p c d e Accept h = subst (λ (C : CertParts). Certifies (arcs p) (rows p) (cols p) C.head.rows C.head.cols C.head.cost C.head.start C.word C.values) e h
+same_verdict : (p : Strip) (c d : CertText) → certificate_parts c ≡ certificate_parts d → (v : Verdict)
+    → IsVerdict p c.cert v → IsVerdict p d.cert v
+same_verdict p c d e Accept h = subst
+    (λ (C : CertParts). Certifies (arcs p) (rows p) (cols p) C.head.rows C.head.cols C.head.cost C.head.start C.word
+    C.values) e h
 same_verdict p c d e Size h = λ f. h (same_fits p d c (sym e) f)
 same_verdict p c d e Word h = (same_fits p c d e h.0, subst (λ (C : CertParts). HasTiling p C → ⊥) e h.1)
-same_verdict p c d e Cost h = (same_fits p c d e h.0, subst (HasTiling p) e h.1, subst (λ (C : CertParts). HasCost p C → ⊥) e h.2)
-same_verdict p c d e (Arc i j s) h = (same_fits p c d e h.0, subst (HasTiling p) e h.1, subst (HasCost p) e h.2, subst (λ (C : CertParts). IsFirstStep (ArcHolds p C) i j s) e h.3)
+same_verdict p c d e Cost h = (
+  same_fits p c d e h.0,
+  subst (HasTiling p) e h.1,
+  subst (λ (C : CertParts). HasCost p C → ⊥) e h.2,
+)
+same_verdict p c d e (Arc i j s) h = (
+  same_fits p c d e h.0,
+  subst (HasTiling p) e h.1,
+  subst (HasCost p) e h.2,
+  subst (λ (C : CertParts). IsFirstStep (ArcHolds p C) i j s) e h.3,
+)
 same_verdict p c d e (Turn i) h = (
   same_fits p c d e h.0,
   subst (HasTiling p) e h.1,
@@ -146,15 +173,19 @@ same_verdict p c d e (Turn i) h = (
   subst (λ (C : CertParts). IsFirstRow (Turns p C) i) e h.4,
 )
 
-agree_verdicts : (p : Strip) (c d : CertText) → certificate_parts c ≡ certificate_parts d → Agree (TellsVerdict p c) (TellsVerdict p d)
+agree_verdicts : (p : Strip) (c d : CertText) → certificate_parts c ≡ certificate_parts d
+    → Agree (TellsVerdict p c) (TellsVerdict p d)
 agree_verdicts p c d e r s t u h k =
     let same : h.verdict ≡ k.verdict = k.only h.verdict (same_verdict p c d e h.verdict h.judges) in
     agree_tells (verdict_text c.pair c.cert.cost h.verdict) (verdict_text d.pair d.cert.cost k.verdict) 0 0
-    (ap (λ (C : CertParts). verdict_text C.head.pair C.head.cost h.verdict) e ∙ ap (verdict_text d.pair d.cert.cost) same) refl r s t u h.tells k.tells
+    (ap (λ (C : CertParts). verdict_text C.head.pair C.head.cost h.verdict) e
+    ∙ ap (verdict_text d.pair d.cert.cost) same) refl r s t u h.tells k.tells
 
 one_verdict : (last : ℕ) (F : FileParts) (tail : List Kept) → IsOne (verdict last F tail)
 one_verdict last F tail =
-    one_numbered F _ (λ ps. one_certs last tail _ (λ c d e. agree_pairs ps c.pair d.pair (ap (λ (C : CertParts). C.head.pair) e) _ _ (λ p. agree_verdicts p.strip c d e)))
+    one_numbered F _ (λ ps. one_certs last tail _
+    (λ c d e. agree_pairs ps c.pair d.pair (ap (λ (C : CertParts). C.head.pair) e) _ _
+    (λ p. agree_verdicts p.strip c d e)))
 
 pub one_check : (bytes : List ℕ) → IsOne (check bytes)
 one_check bytes = one_fronts (verdict (length (lines bytes))) bytes (one_verdict (length (lines bytes)))

@@ -21,7 +21,12 @@ Size w = length (word_text w) + 1
 
 spaced_short : (w : Word) (ws : List Word) → length (spaced (w ∷ ws)) + 1 ≡ sum_by Size (w ∷ ws)
 spaced_short w [] = omega (arith, sum_by-cons Size w [])
-spaced_short w (v ∷ ws) = omega (arith, sum_by-cons Size w (v ∷ ws), length-append (word_text w) (32 ∷ spaced (v ∷ ws)), spaced_short v ws)
+spaced_short w (v ∷ ws) = omega (
+  arith,
+  sum_by-cons Size w (v ∷ ws),
+  length-append (word_text w) (32 ∷ spaced (v ∷ ws)),
+  spaced_short v ws,
+)
 
 line_size : (w : Word) (ws : List Word) → length (line_text (w ∷ ws)) ≡ sum_by Size (w ∷ ws)
 line_size w ws = omega (arith, length-append (spaced (w ∷ ws)) (10 ∷ []), spaced_short w ws)
@@ -31,7 +36,8 @@ decimal_size k n some h le = length-decimal-le_wide k n some h (omega (arith, le
 
 value_size : (z : ℤ) → IsModest z → length (signed_decimal z) ≤ 38
 value_size (pos n) h = let m : n ≤ 10 ^ 36 = h in omega (arith, decimal_size 37 n (omega arith) (omega (arith, m)) m)
-value_size (negsuc n) h = let m : suc n ≤ 10 ^ 36 = h in omega (arith, decimal_size 37 (suc n) (omega arith) (omega (arith, m)) m)
+value_size (negsuc n) h = let m : suc n ≤ 10 ^ 36 = h in
+    omega (arith, decimal_size 37 (suc n) (omega arith) (omega (arith, m)) m)
 
 values_size : (xs : List ℤ) → AllByRecursion IsModest xs → sum_by Size (row_line xs) ≤ 39 * length xs
 values_size [] h = omega arith
@@ -39,13 +45,21 @@ values_size (x ∷ xs) h = omega (arith, sum_by-cons Size (number x) (row_line x
 
 row_size : (w : ℕ) (xs : List ℤ) → 0 < w → IsValueRow w xs → length (line_text (row_line xs)) ≤ 39 * w
 row_size w [] some r = absurd (omega (arith, r.0, some))
-row_size w (x ∷ xs) some r = omega (arith, line_size (number x) (row_line xs), values_size (x ∷ xs) (recursion_from_All IsModest (x ∷ xs) r.1), r.0)
+row_size w (x ∷ xs) some r = omega
+    (arith, line_size (number x) (row_line xs), values_size (x ∷ xs) (recursion_from_All IsModest (x ∷ xs) r.1), r.0)
 
-rows_size : (w : ℕ) (rs : List (List ℤ)) → 0 < w → AllByRecursion (IsValueRow w) rs → length (flat_map line_text (map row_line rs)) ≤ length rs * (39 * w)
+rows_size : (w : ℕ) (rs : List (List ℤ)) → 0 < w → AllByRecursion (IsValueRow w) rs
+    → length (flat_map line_text (map row_line rs)) ≤ length rs * (39 * w)
 rows_size w [] some h = omega arith
-rows_size w (r ∷ rs) some h = omega (arith, length-append (line_text (row_line r)) (flat_map line_text (map row_line rs)), row_size w r some h.0, rows_size w rs some h.1)
+rows_size w (r ∷ rs) some h = omega (
+  arith,
+  length-append (line_text (row_line r)) (flat_map line_text (map row_line rs)),
+  row_size w r some h.0,
+  rows_size w rs some h.1,
+)
 
-named_size : (k : List ℕ) (z : ℤ) (ws : List Word) → sum_by Size (text k ∷ number z ∷ ws) ≡ length k + length (signed_decimal z) + 2 + sum_by Size ws
+named_size : (k : List ℕ) (z : ℤ) (ws : List Word)
+    → sum_by Size (text k ∷ number z ∷ ws) ≡ length k + length (signed_decimal z) + 2 + sum_by Size ws
 named_size k z ws = omega (arith, sum_by-cons Size (text k) (number z ∷ ws), sum_by-cons Size (number z) ws)
 
 head_size : (h : CertHead) → IsHead h → length (line_text (head_line h)) ≤ 200
@@ -73,7 +87,14 @@ head_size h i =
     )
 
 word_size : (w : List Step) → IsWord w → length (line_text (word_line w)) ≤ 8200
-word_size w i = omega (arith, line_size (text (codes "WORD")) (text (map letter w) ∷ []), sum_by-cons Size (text (codes "WORD")) (text (map letter w) ∷ []), sum_by-cons Size (text (map letter w)) [], length-map w letter, i.1)
+word_size w i = omega (
+  arith,
+  line_size (text (codes "WORD")) (text (map letter w) ∷ []),
+  sum_by-cons Size (text (codes "WORD")) (text (map letter w) ∷ []),
+  sum_by-cons Size (text (map letter w)) [],
+  length-map w letter,
+  i.1,
+)
 
 pub text_size : (C : CertParts) → IsLawfulCertificate C → length (cert_text C) ≤ 1400000000
 text_size C l =

@@ -35,7 +35,14 @@ use Rattle.run_laws.proofs.ThreeLaws.{AreThree, all_three, plain_built, ring_bui
 short : (m : Surface) → IsMesh m → length (byu_of m) ≤ MAX_MESH_BYTES
 short m is =
     let v = is.valid in
-    omega (arith, ap length (written m), whole_width (head_of m) (sizes_of m) m.vertices (polygons_of m) (pieces_of m is), v.few_parts, v.few_vertices, v.few_triangles)
+    omega (
+      arith,
+      ap length (written m),
+      whole_width (head_of m) (sizes_of m) m.vertices (polygons_of m) (pieces_of m is),
+      v.few_parts,
+      v.few_vertices,
+      v.few_triangles,
+    )
 
 is_mesh : (m : Surface) → IsValid m → AreThree m → IsMesh m
 is_mesh m v h = record {
@@ -44,44 +51,66 @@ is_mesh m v h = record {
 }
 
 -- it is counted, and it is closed
-is_counted : (m : Surface) (text : List ℕ) → IsMesh m → All IsClosed m.parts → text ≡ byu_of m → Answers Count text Done (count_text m true) 0
+is_counted : (m : Surface) (text : List ℕ) → IsMesh m → All IsClosed m.parts → text ≡ byu_of m
+    → Answers Count text Done (count_text m true) 0
 is_counted m text is closed same =
     let reply : Reply = told (count_text m true) 0 in
-    let counts : count text reply = goes_on m reply (record { mesh = is; same = same }) (record { closed = true; says = (λ e. closed, λ c. refl); tells = refl }) in
+    let counts : count text reply = goes_on m reply (record { mesh = is; same = same })
+    (record { closed = true; says = (λ e. closed, λ c. refl); tells = refl }) in
     (reply, goes_on text reply (omega (arith, short m is, ap length same), refl) counts, (refl, refl, refl))
 
 -- the counts of such a text
 abbrev Counted : (FileParts → Built → Type 0) → List ℕ → List ℕ → Type 0
-Counted IsOf input text = (m : Surface) × IsSurfaceText IsOf input text m × Answers Count text Done (count_text m true) 0
+Counted IsOf input text = (m : Surface) × IsSurfaceText IsOf input text m
+    × Answers Count text Done (count_text m true) 0
 
-counted : (IsOf : FileParts → Built → Type 0) (input text : List ℕ) (F : FileParts) (b : Built) → IsTextOfFile input F → IsOf F b → IsValid (surface_of b.mesh) → All IsClosed (surface_of b.mesh).parts → AreThree (surface_of b.mesh) → text ≡ byu_of (surface_of b.mesh) → Counted IsOf input text
+counted : (IsOf : FileParts → Built → Type 0) (input text : List ℕ) (F : FileParts) (b : Built) → IsTextOfFile input F
+    → IsOf F b → IsValid (surface_of b.mesh) → All IsClosed (surface_of b.mesh).parts → AreThree (surface_of b.mesh)
+    → text ≡ byu_of (surface_of b.mesh) → Counted IsOf input text
 counted IsOf input text F b read is valid closed three same =
-    let m = surface_of b.mesh in
-    (m, record { objects = F; read = read; built = b; surface = is; same = refl; written = same }, is_counted m text (is_mesh m valid three) closed same)
+    let m = surface_of b.mesh in (
+      m,
+      record { objects = F; read = read; built = b; surface = is; same = refl; written = same },
+      is_counted m text (is_mesh m valid three) closed same,
+    )
 
 plain_counted : (input text : List ℕ) (n : ℕ) → Answers Reconstruct input Done text n → Counted IsSurfaceOf input text
 plain_counted input text n is =
     let f = of_objects MAX_INPUT_BYTES (reconstruct byu_of) input is.0 text n is.1 is.2 in
-    let made = went (IsFoundIn f.0) (IsSurfaceOf f.0) (λ b. Tells (byu_of (surface_of b.mesh)) b.pairs) (told text n) f.2 tt in
+    let made = went (IsFoundIn f.0) (IsSurfaceOf f.0) (λ b. Tells (byu_of (surface_of b.mesh)) b.pairs) (told text n)
+    f.2 tt in
     let b = made.0 in
-    let three = all_three IsBuilt plain_built f.0 b (objects_accepted f.0 f.1.0.is_file f.1.0.lawful f.1.1) made.1.is_built in
-    counted IsSurfaceOf input text f.0 b f.1 made.1 made.1.valid made.1.closed three (same_text text (byu_of (surface_of b.mesh)) n b.pairs made.2)
+    let three = all_three IsBuilt plain_built f.0 b (objects_accepted f.0 f.1.0.is_file f.1.0.lawful f.1.1)
+    made.1.is_built in
+    counted IsSurfaceOf input text f.0 b f.1 made.1 made.1.valid made.1.closed three
+    (same_text text (byu_of (surface_of b.mesh)) n b.pairs made.2)
 
 ring_counted : (input text : List ℕ) (n : ℕ) → Answers RingCaps input Done text n → Counted IsRingSurfaceOf input text
 ring_counted input text n is =
     let f = of_objects MAX_INPUT_BYTES (ring_caps byu_of) input is.0 text n is.1 is.2 in
-    let made = went (IsRingFoundIn f.0) (IsRingSurfaceOf f.0) (λ b. Tells (byu_of (surface_of b.mesh)) b.pairs) (told text n) f.2 tt in
+    let made = went (IsRingFoundIn f.0) (IsRingSurfaceOf f.0) (λ b. Tells (byu_of (surface_of b.mesh)) b.pairs)
+    (told text n) f.2 tt in
     let b = made.0 in
-    let three = all_three IsRingBuilt ring_built f.0 b (objects_accepted f.0 f.1.0.is_file f.1.0.lawful f.1.1) made.1.is_built in
-    counted IsRingSurfaceOf input text f.0 b f.1 made.1 made.1.valid made.1.closed three (same_text text (byu_of (surface_of b.mesh)) n b.pairs made.2)
+    let three = all_three IsRingBuilt ring_built f.0 b (objects_accepted f.0 f.1.0.is_file f.1.0.lawful f.1.1)
+    made.1.is_built in
+    counted IsRingSurfaceOf input text f.0 b f.1 made.1 made.1.valid made.1.closed three
+    (same_text text (byu_of (surface_of b.mesh)) n b.pairs made.2)
 
-by_count : (IsOf : FileParts → Built → Type 0) (other : List (List ℕ)) (input text : List ℕ) → AsksFor Count other → Counted IsOf input text → (m : Surface) × IsSurfaceText IsOf input text m × IsOut other text Done (count_text m true) 0
+by_count : (IsOf : FileParts → Built → Type 0) (other : List (List ℕ)) (input text : List ℕ) → AsksFor Count other
+    → Counted IsOf input text → (m : Surface) × IsSurfaceText IsOf input text m
+    × IsOut other text Done (count_text m true) 0
 by_count IsOf other input text asks h = (h.0, h.1, by_words Count other text (count_text h.0 true) Done 0 asks h.2)
 
-pub plain_closed : (words other : List (List ℕ)) (input text : List ℕ) (n : ℕ) → AsksFor Reconstruct words → IsOut words input Done text n → AsksFor Count other → (m : Surface) × IsSurfaceText IsSurfaceOf input text m × IsOut other text Done (count_text m true) 0
+pub plain_closed : (words other : List (List ℕ)) (input text : List ℕ) (n : ℕ) → AsksFor Reconstruct words
+    → IsOut words input Done text n → AsksFor Count other → (m : Surface) × IsSurfaceText IsSurfaceOf input text m
+    × IsOut other text Done (count_text m true) 0
 plain_closed words other input text n asks out counts =
-    by_count IsSurfaceOf other input text counts (plain_counted input text n (of_words Reconstruct words input text Done n asks out))
+    by_count IsSurfaceOf other input text counts
+    (plain_counted input text n (of_words Reconstruct words input text Done n asks out))
 
-pub ring_closed : (words other : List (List ℕ)) (input text : List ℕ) (n : ℕ) → AsksFor RingCaps words → IsOut words input Done text n → AsksFor Count other → (m : Surface) × IsSurfaceText IsRingSurfaceOf input text m × IsOut other text Done (count_text m true) 0
+pub ring_closed : (words other : List (List ℕ)) (input text : List ℕ) (n : ℕ) → AsksFor RingCaps words
+    → IsOut words input Done text n → AsksFor Count other → (m : Surface) × IsSurfaceText IsRingSurfaceOf input text m
+    × IsOut other text Done (count_text m true) 0
 ring_closed words other input text n asks out counts =
-    by_count IsRingSurfaceOf other input text counts (ring_counted input text n (of_words RingCaps words input text Done n asks out))
+    by_count IsRingSurfaceOf other input text counts
+    (ring_counted input text n (of_words RingCaps words input text Done n asks out))

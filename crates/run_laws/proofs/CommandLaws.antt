@@ -34,22 +34,30 @@ use Rattle.run_laws.proofs.LandmarkLaws.{one_landmarks}
 use Rattle.run_laws.proofs.SliceLaws.{one_slices}
 
 one_tilings : (F : FileParts) → IsOne (tilings F)
-one_tilings F = one_pair_lists_of F _ (λ pss. one_solution_list (numbered pss) _ (λ xs. one_tells (tilings_text F pss xs) (length (numbered pss))))
+one_tilings F = one_pair_lists_of F _
+    (λ pss. one_solution_list (numbered pss) _ (λ xs. one_tells (tilings_text F pss xs) (length (numbered pss))))
 
-agree_meshes : (b c : Built) → AreAlike b c → Agree (Tells (byu_of (surface_of b.mesh)) b.pairs) (Tells (byu_of (surface_of c.mesh)) c.pairs)
-agree_meshes b c e = agree_tells (byu_of (surface_of b.mesh)) (byu_of (surface_of c.mesh)) b.pairs c.pairs (ap byu_of e.0) e.1
+agree_meshes : (b c : Built) → AreAlike b c
+    → Agree (Tells (byu_of (surface_of b.mesh)) b.pairs) (Tells (byu_of (surface_of c.mesh)) c.pairs)
+agree_meshes b c e = agree_tells (byu_of (surface_of b.mesh)) (byu_of (surface_of c.mesh)) b.pairs c.pairs
+    (ap byu_of e.0) e.1
 
 one_reconstruct : (F : FileParts) → IsOne (reconstruct byu_of F)
-one_reconstruct F = one_surface_of F (λ b. Tells (byu_of (surface_of b.mesh)) b.pairs) (λ b c is has. agree_meshes b c (one_surface_in F b c is has))
+one_reconstruct F = one_surface_of F (λ b. Tells (byu_of (surface_of b.mesh)) b.pairs)
+    (λ b c is has. agree_meshes b c (one_surface_in F b c is has))
 
 one_ring_caps : (F : FileParts) → IsOne (ring_caps byu_of F)
-one_ring_caps F = one_ring_surface_of F (λ b. Tells (byu_of (surface_of b.mesh)) b.pairs) (λ b c is has. agree_meshes b c (one_ring_surface_in F b c is has))
+one_ring_caps F = one_ring_surface_of F (λ b. Tells (byu_of (surface_of b.mesh)) b.pairs)
+    (λ b c is has. agree_meshes b c (one_ring_surface_in F b c is has))
 
 -- a report is made of determined parts
 abbrev text_from : List SectionParts → Surface → ℕ → ℕ → ℤ → List ℕ
-text_from sections m folded pairs cost = sizes_text (length sections) (length (contours_of sections)) (length m.vertices) (sum_by length m.parts) ++ four_measures folded pairs cost (six_volume m origin)
+text_from sections m folded pairs cost =
+    sizes_text (length sections) (length (contours_of sections)) (length m.vertices) (sum_by length m.parts)
+    ++ four_measures folded pairs cost (six_volume m origin)
 
-same_report : (sections : List SectionParts) (b c : Built) → AreAlike b c → report_text sections b ≡ report_text sections c
+same_report : (sections : List SectionParts) (b c : Built) → AreAlike b c
+    → report_text sections b ≡ report_text sections c
 same_report sections b c e =
     let m = surface_of c.mesh in
     ap (λ (n : Surface). text_from sections n b.folded b.pairs b.cost) e.0
@@ -57,17 +65,21 @@ same_report sections b c e =
     ∙ ap (λ (n : ℕ). text_from sections m c.folded n b.cost) e.1
     ∙ ap (λ (n : ℤ). text_from sections m c.folded c.pairs n) e.2
 
-agree_reports : (head : List ℕ) (sections : List SectionParts) (b c : Built) → AreAlike b c → Agree (Reports head sections b) (Reports head sections c)
+agree_reports : (head : List ℕ) (sections : List SectionParts) (b c : Built) → AreAlike b c
+    → Agree (Reports head sections b) (Reports head sections c)
 agree_reports head sections b c e r s t u h k =
-    agree_tells (head ++ report_text sections b) (head ++ report_text sections c) b.pairs c.pairs (ap (λ (x : List ℕ). head ++ x) (same_report sections b c e)) e.1 r s t u h.tells k.tells
+    agree_tells (head ++ report_text sections b) (head ++ report_text sections c) b.pairs c.pairs
+    (ap (λ (x : List ℕ). head ++ x) (same_report sections b c e)) e.1 r s t u h.tells k.tells
 
 one_report : (F : FileParts) → IsOne (report F)
-one_report F = one_surface_of F (Reports [] (all_sections F.objects)) (λ b c is has. agree_reports [] (all_sections F.objects) b c (one_surface_in F b c is has))
+one_report F = one_surface_of F (Reports [] (all_sections F.objects))
+    (λ b c is has. agree_reports [] (all_sections F.objects) b c (one_surface_in F b c is has))
 
 one_demo : (seed sections vertices : ℕ) → IsOne (demo_report seed sections vertices)
 one_demo seed sections vertices =
     let S = demo seed sections vertices in
-    one_surface_of_one S (Reports (demo_line seed sections vertices) S.sections) (λ b c is has. agree_reports (demo_line seed sections vertices) S.sections b c (one_surface S b c is has))
+    one_surface_of_one S (Reports (demo_line seed sections vertices) S.sections)
+    (λ b c is has. agree_reports (demo_line seed sections vertices) S.sections b c (one_surface S b c is has))
 
 one_crossings : (bytes : List ℕ) → IsOne (crossings bytes)
 one_crossings bytes = one_mesh (λ (m : Surface). Tells (crossings_text m) 0) (λ m. one_tells (crossings_text m) 0) bytes

@@ -16,10 +16,12 @@ use Rattle.run_laws.proofs.MeasureLaws.{one_measures}
 use Rattle.run_laws.proofs.ReplyLaws.{IsOne, IsToldFault, agree_tells, one_stage}
 
 -- a text has at most one fault, and none if it is a mesh's
-one_byu_fault : (bytes : List ℕ) (f g : Fault) → IsToldFault f → IsToldFault g → IsByuFault bytes f → IsByuFault bytes g → f ≡ g
+one_byu_fault : (bytes : List ℕ) (f g : Fault) → IsToldFault f → IsToldFault g → IsByuFault bytes f → IsByuFault bytes g
+    → f ≡ g
 one_byu_fault bytes f g t u h k = h.2 ∙ ap (λ (l : ℕ). ByuForm l) (one_fault bytes h.0 k.0 h.1 k.1) ∙ sym k.2
 
-mesh_or_fault : (bytes : List ℕ) (m : Surface) (f : Fault) → IsToldFault f → ReadsAsMesh bytes m → IsByuFault bytes f → ⊥
+mesh_or_fault : (bytes : List ℕ) (m : Surface) (f : Fault) → IsToldFault f → ReadsAsMesh bytes m → IsByuFault bytes f
+    → ⊥
 mesh_or_fault bytes m f t is h = no_fault bytes h.0 m is h.1
 
 -- a test has one outcome
@@ -31,18 +33,22 @@ one_outcome false false h k = refl
 
 one_counts : (m : Surface) → IsOne (TellsCounts m)
 one_counts m r s t u h k =
-    agree_tells (count_text m h.closed) (count_text m k.closed) 0 0 (ap (count_text m) (one_outcome h.closed k.closed h.says k.says)) refl r s t u h.tells k.tells
+    agree_tells (count_text m h.closed) (count_text m k.closed) 0 0
+    (ap (count_text m) (one_outcome h.closed k.closed h.says k.says)) refl r s t u h.tells k.tells
 
 -- a rule on the mesh whose text the bytes are
-pub one_mesh : (rule : Surface → Reply → Type 0) → ((m : Surface) → IsOne (rule m)) → (bytes : List ℕ) → IsOne (on_mesh rule bytes)
-one_mesh rule one bytes = one_stage (IsByuFault bytes) (ReadsAsMesh bytes) rule (one_byu_fault bytes) (mesh_or_fault bytes) (reads_one bytes) (λ m is. one m)
+pub one_mesh : (rule : Surface → Reply → Type 0) → ((m : Surface) → IsOne (rule m)) → (bytes : List ℕ)
+    → IsOne (on_mesh rule bytes)
+one_mesh rule one bytes = one_stage (IsByuFault bytes) (ReadsAsMesh bytes) rule (one_byu_fault bytes)
+    (mesh_or_fault bytes) (reads_one bytes) (λ m is. one m)
 
 pub one_count : (bytes : List ℕ) → IsOne (count bytes)
 one_count bytes = one_mesh TellsCounts one_counts bytes
 
 one_told : (m : Surface) → IsOne (TellsMeasures m)
 one_told m r s t u h k =
-    agree_tells (measures_text h.measures) (measures_text k.measures) 0 0 (one_measures m h.measures k.measures h.are k.are) refl r s t u h.tells k.tells
+    agree_tells (measures_text h.measures) (measures_text k.measures) 0 0
+    (one_measures m h.measures k.measures h.are k.are) refl r s t u h.tells k.tells
 
 pub one_measure : (bytes : List ℕ) → IsOne (measure bytes)
 one_measure bytes = one_mesh TellsMeasures one_told bytes

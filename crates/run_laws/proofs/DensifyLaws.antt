@@ -27,19 +27,22 @@ one_line : (f g : Fault) (s t : List ℕ) → f ≡ g → fault_words f ≡ Some
 one_line f g s t e h k = let same : Some s ≡ Some t = sym h ∙ ap fault_words e ∙ k in cc
 
 one_words : (S : Parts) (s t : List ℕ) → AreMiddleWords S s → AreMiddleWords S t → s ≡ t
-one_words S s t h k = h.are ∙ ap middle_words (one_line h.fault k.fault h.line k.line (one_middle_fault S h.fault k.fault h.has k.has) h.says k.says) ∙ sym k.are
+one_words S s t h k = h.are ∙ ap middle_words
+    (one_line h.fault k.fault h.line k.line (one_middle_fault S h.fault k.fault h.has k.has) h.says k.says) ∙ sym k.are
 
 never_both : (S : Parts) (text words : List ℕ) → IsDensifiedText S text → AreMiddleWords S words → ⊥
 never_both S text words h k = no_middle S h.made k.fault h.densified (accepted text h.made h.reads) h.pairs k.has
 
 one_densifies : (S : Parts) (ps : List PairParts) → IsOne (Densifies S ps)
-one_densifies S ps (told s m) (told t n) i j h k = ap₂ (λ (x : List ℕ) (y : ℕ). told x y) (one_text S s t h.0 k.0) (h.1 ∙ sym k.1)
+one_densifies S ps (told s m) (told t n) i j h k =
+    ap₂ (λ (x : List ℕ) (y : ℕ). told x y) (one_text S s t h.0 k.0) (h.1 ∙ sym k.1)
 one_densifies S ps (told s m) (refused f) i j h k = absurd k
 one_densifies S ps (told s m) (refused_after t n) i j h k = absurd (never_both S s t h.0 k.0)
 one_densifies S ps (refused f) q i j h k = absurd h
 one_densifies S ps (refused_after s m) (told t n) i j h k = absurd (never_both S t s k.0 h.0)
 one_densifies S ps (refused_after s m) (refused f) i j h k = absurd k
-one_densifies S ps (refused_after s m) (refused_after t n) i j h k = ap₂ (λ (x : List ℕ) (y : ℕ). refused_after x y) (one_words S s t h.0 k.0) (h.1 ∙ sym k.1)
+one_densifies S ps (refused_after s m) (refused_after t n) i j h k =
+    ap₂ (λ (x : List ℕ) (y : ℕ). refused_after x y) (one_words S s t h.0 k.0) (h.1 ∙ sym k.1)
 
 one_densify_sections : (S : Parts) → IsOne (densify_sections S)
 one_densify_sections S = one_pairs_of S (Densifies S) (one_densifies S)

@@ -25,7 +25,8 @@ one_root_below v r q h k = omega (arith, at_most r q h k, at_most q r k h)
       where
         by_order : (n < m) ⊎ (m ≤ n) → m ≤ n
         by_order (inr l) = l
-        by_order (inl l) = (let next : n + 1 ≤ m = omega arith in absurd (omega (arith, mul-le-mul next next, f.0, g.1)))
+        by_order (inl l) = (let next : n + 1 ≤ m = omega arith in
+            absurd (omega (arith, mul-le-mul next next, f.0, g.1)))
 
 one_root_above : (v r q : ℕ) → IsRootAbove v r → IsRootAbove v q → r ≡ q
 one_root_above v r q h k = omega (arith, h.1 q k.0, k.1 r h.0)
@@ -40,7 +41,8 @@ unfolding AreAdded
 are_added none = refl
 are_added (more x xs r s h rest) = (r, s, h, are_added rest, refl)
 
-one_added : {X : Type 0} (R : X → ℕ → Type 0) → ((x : X) (r q : ℕ) → R x r → R x q → r ≡ q) → (xs : List X) (m n : ℕ) → AreAdded R xs m → AreAdded R xs n → m ≡ n
+one_added : {X : Type 0} (R : X → ℕ → Type 0) → ((x : X) (r q : ℕ) → R x r → R x q → r ≡ q) → (xs : List X) (m n : ℕ)
+    → AreAdded R xs m → AreAdded R xs n → m ≡ n
 unfolding AreAdded
 one_added R one [] m n h k = h ∙ sym k
 one_added R one (x ∷ xs) m n h k = h.4 ∙ ap₂ ◌+◌ (one x h.0 k.0 h.2 k.2) (one_added R one xs h.1 k.1 h.3 k.3) ∙ sym k.4
@@ -77,38 +79,59 @@ one_box b c points h k =
     (one_greatest b.greatest.z c.greatest.z (map (λ (p : Point). p.z) points) h.greatest_z k.greatest_z))
 
 -- ---- the solid that it encloses
-one_solid : {P : Type 0} (points : List Point) (part : List (List ℕ)) (o q : Option Solid) → (IsSome o ↔ P) → (IsSome q ↔ P) → IfSome o (IsSolid points part) → IfSome q (IsSolid points part)
+one_solid : {P : Type 0} (points : List Point) (part : List (List ℕ)) (o q : Option Solid) → (IsSome o ↔ P)
+    → (IsSome q ↔ P) → IfSome o (IsSolid points part) → IfSome q (IsSolid points part)
     → solid_text o ≡ solid_text q
 one_solid points part None None f g h k = refl
 one_solid points part None (Some t) f g h k = absurd (true≢false (sym (f.1 (g.0 refl))))
 one_solid points part (Some s) None f g h k = absurd (true≢false (sym (g.1 (f.0 refl))))
 one_solid points part (Some s) (Some t) f g h k =
-    ap₂ (λ (v x : ℤ). codes "CLOSED yes\nSIXVOLUME " ++ (signed_decimal v ++ (codes "\nMOMENT " ++ (signed_decimal x ++ (codes " " ++ (signed_decimal s.moment_y ++ (codes " " ++ (signed_decimal s.moment_z ++ codes "\n"))))))))
+    ap₂ (λ (v x : ℤ). codes "CLOSED yes\nSIXVOLUME "
+    ++ (signed_decimal v ++ (codes "\nMOMENT "
+    ++ (signed_decimal x ++ (codes " "
+    ++ (signed_decimal s.moment_y ++ (codes " " ++ (signed_decimal s.moment_z ++ codes "\n"))))))))
     (h.six_volume ∙ sym k.six_volume) (h.moment_x ∙ sym k.moment_x)
-    ∙ ap₂ (λ (y z : ℤ). codes "CLOSED yes\nSIXVOLUME " ++ (signed_decimal t.six_volume ++ (codes "\nMOMENT " ++ (signed_decimal t.moment_x ++ (codes " " ++ (signed_decimal y ++ (codes " " ++ (signed_decimal z ++ codes "\n"))))))))
+    ∙ ap₂ (λ (y z : ℤ). codes "CLOSED yes\nSIXVOLUME "
+    ++ (signed_decimal t.six_volume ++ (codes "\nMOMENT "
+    ++ (signed_decimal t.moment_x ++ (codes " "
+    ++ (signed_decimal y ++ (codes " " ++ (signed_decimal z ++ codes "\n"))))))))
     (h.moment_y ∙ sym k.moment_y) (h.moment_z ∙ sym k.moment_z)
 
 -- ---- the lines of parts
-one_measured : (points : List Point) (part : List (List ℕ)) (number : ℕ) (m n : Measures) → AreMeasures points part m → AreMeasures points part n → measured_text number m ≡ measured_text number n
+one_measured : (points : List Point) (part : List (List ℕ)) (number : ℕ) (m n : Measures) → AreMeasures points part m
+    → AreMeasures points part n → measured_text number m ≡ measured_text number n
 one_measured points part number m n h k =
-    let low : m.area.low ≡ n.area.low = one_added (λ t r. IsRootBelow (scaled_square points t) r) (λ t r q. one_root_below (scaled_square points t) r q) part m.area.low n.area.low (are_added h.low) (are_added k.low) in
-    let high : m.area.high ≡ n.area.high = one_added (λ t r. IsRootAbove (scaled_square points t) r) (λ t r q. one_root_above (scaled_square points t) r q) part m.area.high n.area.high (are_added h.high) (are_added k.high) in
+    let low : m.area.low ≡ n.area.low =
+    one_added (λ t r. IsRootBelow (scaled_square points t) r) (λ t r q. one_root_below (scaled_square points t) r q)
+    part m.area.low n.area.low (are_added h.low) (are_added k.low) in
+    let high : m.area.high ≡ n.area.high =
+    one_added (λ t r. IsRootAbove (scaled_square points t) r) (λ t r q. one_root_above (scaled_square points t) r q)
+    part m.area.high n.area.high (are_added h.high) (are_added k.high) in
     ap₂ ◌++◌
-    (ap₂ (λ (v t : ℕ). codes "PART " ++ (decimal number ++ (codes "\nVERTICES " ++ (decimal v ++ (codes "\nPOLYGONS " ++ (decimal t ++ codes "\n")))))) (h.vertices ∙ sym k.vertices) (h.polygons ∙ sym k.polygons))
+    (ap₂ (λ (v t : ℕ). codes "PART " ++ (decimal number
+    ++ (codes "\nVERTICES " ++ (decimal v ++ (codes "\nPOLYGONS " ++ (decimal t ++ codes "\n"))))))
+    (h.vertices ∙ sym k.vertices) (h.polygons ∙ sym k.polygons))
     (ap₂ ◌++◌ (one_box m.bounds n.bounds _ h.bounds k.bounds)
-    (ap₂ ◌++◌ (ap₂ (λ (l u : ℕ). codes "AREA " ++ (decimal l ++ (codes " " ++ (decimal u ++ codes " DEN 2000\n")))) low high)
-    (ap₂ ◌++◌ (ap₂ (λ (e a : ℕ). codes "EDGES " ++ (decimal e ++ (codes " MANY " ++ (decimal a ++ codes "\n")))) (h.edges ∙ sym k.edges) (h.many ∙ sym k.many))
+    (ap₂ ◌++◌ (ap₂ (λ (l u : ℕ). codes "AREA " ++ (decimal l ++ (codes " " ++ (decimal u ++ codes " DEN 2000\n")))) low
+    high)
+    (ap₂ ◌++◌ (ap₂ (λ (e a : ℕ). codes "EDGES " ++ (decimal e ++ (codes " MANY " ++ (decimal a ++ codes "\n"))))
+    (h.edges ∙ sym k.edges) (h.many ∙ sym k.many))
     (one_solid points part m.solid n.solid h.closed k.closed h.solid k.solid))))
 
-one_list : (points : List Point) (parts : List (List (List ℕ))) (number : ℕ) (ms ns : List Measures) → AllZip (AreMeasures points) parts ms → AllZip (AreMeasures points) parts ns → parts_text number ms ≡ parts_text number ns
+one_list : (points : List Point) (parts : List (List (List ℕ))) (number : ℕ) (ms ns : List Measures)
+    → AllZip (AreMeasures points) parts ms → AllZip (AreMeasures points) parts ns
+    → parts_text number ms ≡ parts_text number ns
 one_list points [] number [] [] h k = refl
 one_list points [] number [] (n ∷ ns) h k = absurd k
 one_list points [] number (m ∷ ms) ns h k = absurd h
 one_list points (part ∷ parts) number [] ns h k = absurd h
 one_list points (part ∷ parts) number (m ∷ ms) [] h k = absurd k
-one_list points (part ∷ parts) number (m ∷ ms) (n ∷ ns) h k = ap₂ ◌++◌ (one_measured points part number m n h.0 k.0) (one_list points parts (number + 1) ms ns h.1 k.1)
+one_list points (part ∷ parts) number (m ∷ ms) (n ∷ ns) h k =
+    ap₂ ◌++◌ (one_measured points part number m n h.0 k.0) (one_list points parts (number + 1) ms ns h.1 k.1)
 
-pub one_measures : (m : Surface) (ms ns : List Measures) → AllZip (AreMeasures m.vertices) m.parts ms → AllZip (AreMeasures m.vertices) m.parts ns → measures_text ms ≡ measures_text ns
+pub one_measures : (m : Surface) (ms ns : List Measures) → AllZip (AreMeasures m.vertices) m.parts ms
+    → AllZip (AreMeasures m.vertices) m.parts ns → measures_text ms ≡ measures_text ns
 one_measures m ms ns h k =
-    ap₂ ◌++◌ (ap parts_line (AllZip-long (AreMeasures m.vertices) m.parts ms h ∙ sym (AllZip-long (AreMeasures m.vertices) m.parts ns k)))
+    ap₂ ◌++◌ (ap parts_line (AllZip-long (AreMeasures m.vertices) m.parts ms h
+    ∙ sym (AllZip-long (AreMeasures m.vertices) m.parts ns k)))
     (one_list m.vertices m.parts 1 ms ns h k)

@@ -30,13 +30,15 @@ use Rattle.run_laws.proofs.ValidLaws.{valid_done}
 
 -- a reader of both versions reads a text of version 1
 read_by_both : (kept : List Kept) (F : FileParts) (tail : List Kept) → HasFile One kept F tail → HasFile Two kept F tail
-read_by_both kept F tail h = record { front = h.front; split = h.split; match = h.match; is_file = h.is_file; known = refl; lawful = h.lawful }
+read_by_both kept F tail h = record
+    { front = h.front; split = h.split; match = h.match; is_file = h.is_file; known = refl; lawful = h.lawful }
 
 as_objects : (text : List ℕ) (T : Parts) → IsTextOf text T → IsTextOfFile text (as_file T)
 as_objects text T h = (read_by_both (kept_lines text) (as_file T) [] h.0, filled-to T h.1)
 
 -- the fault of one object is that of its sections
-only_item : (S : Parts) (before : List Parts) (item : Parts) (after : List Parts) → S ∷ [] ≡ before ++ item ∷ after → item ≡ S
+only_item : (S : Parts) (before : List Parts) (item : Parts) (after : List Parts) → S ∷ [] ≡ before ++ item ∷ after
+    → item ≡ S
 only_item S [] item after e = cc
 only_item S (b ∷ []) item after e = absurd (cc)
 only_item S (b ∷ c ∷ before) item after e = absurd (cc)
@@ -45,7 +47,8 @@ found_in_one : (T : Parts) (f : Fault) → IsFoundIn (as_file T) f → IsFound T
 found_in_one T f h = subst (λ (S : Parts). IsFound S f) (only_item T h.before h.item h.after h.split) h.has
 
 -- what `densify` writes for an input
-densified_text : (input text : List ℕ) (n : ℕ) → Answers Densify input Done text n → (S : Parts) × IsDensifiedText S text
+densified_text : (input text : List ℕ) (n : ℕ) → Answers Densify input Done text n → (S : Parts)
+    × IsDensifiedText S text
 densified_text input text n is =
     let objects = of_objects MAX_INPUT_BYTES densify input is.0 text n is.1 is.2 in
     let only = went (AreSeveral objects.0) (IsOnly objects.0) densify_sections (told text n) objects.2 tt in
@@ -62,14 +65,19 @@ valid S text h = record {
   fits = reconstruct_fits;
 }
 
-text_for : (task : Task) (input text : List ℕ) (n : ℕ) → task.command ≡ Densify → Answers task.command input Done text n → (S : Parts) × IsDensifiedText S text
-text_for task input text n e is = densified_text input text n (subst (λ (c : Command). Answers c input Done text n) e is)
+text_for : (task : Task) (input text : List ℕ) (n : ℕ) → task.command ≡ Densify → Answers task.command input Done text n
+    → (S : Parts) × IsDensifiedText S text
+text_for task input text n e is = densified_text input text n
+    (subst (λ (c : Command). Answers c input Done text n) e is)
 
-text_of_task : (m : Option Task) (input text : List ℕ) (n : ℕ) → IsToDensify m → IsOutOf m input Done text n → (S : Parts) × IsDensifiedText S text
+text_of_task : (m : Option Task) (input text : List ℕ) (n : ℕ) → IsToDensify m → IsOutOf m input Done text n
+    → (S : Parts) × IsDensifiedText S text
 text_of_task None input text n to is = absurd to
 text_of_task (Some task) input text n to is = text_for task input text n to is
 
-pub takes_densified : (words other : List (List ℕ)) (input text shown : List ℕ) (status : Status) (m n : ℕ) → IsToDensify (meaning words) → IsOut words input Done text m → AsksForSurface other → IsOut other text status shown n → status ≡ Done
+pub takes_densified : (words other : List (List ℕ)) (input text shown : List ℕ) (status : Status) (m n : ℕ)
+    → IsToDensify (meaning words) → IsOut words input Done text m → AsksForSurface other
+    → IsOut other text status shown n → status ≡ Done
 takes_densified words other input text shown status m n to is asks out =
     let made = text_of_task (meaning words) input text m to is in
     valid_done other text shown Reconstruct status n asks (valid made.0 text made.1) out

@@ -51,10 +51,25 @@ ring_least = record {
 
 -- the text of the surface is that of a closed mesh of the input
 closed_surface : IsLeastClosedSurface squares_text byu
-closed_surface = record { objects = file; read = read; meshes = mesh ∷ []; least = (least, tt); closed = mesh_closed; written = written }
+closed_surface = record {
+  objects = file;
+  read = read;
+  meshes = mesh ∷ [];
+  least = (least, tt);
+  closed = mesh_closed;
+  written = written;
+}
 
 ring_closed_surface : IsLeastRingSurface squares_text byu
-ring_closed_surface = record { objects = file; read = read; meshes = mesh ∷ []; least = (ring_least, tt); closed = mesh_closed; written = written }
+ring_closed_surface = record {
+  objects = file;
+  read = read;
+  meshes = mesh ∷ [];
+  least = (ring_least, tt);
+  closed =
+      mesh_closed;
+  written = written;
+}
 
 -- the words ask for their command
 asked : AsksFor Tilings tilings_words × AsksForSurface reconstruct_words × AsksForRingSurface ringcaps_words

@@ -36,20 +36,45 @@ faultless f h = objects_paired_or_found file ((pair ∷ []) ∷ []) f (squares_p
 valid : (command : Command) → IsInputWithin command squares_text → Fits file command → IsValidInput command squares_text
 valid command within fits = record { within = within; objects = file; read = read; faultless = faultless; fits = fits }
 
-squares_valid : IsValidInput Tilings squares_text × IsValidInput (Certify 1) squares_text × IsValidInput (Slice (pos 5)) squares_text
-squares_valid = (valid Tilings (omega arith) tilings_fit, valid (Certify 1) (omega arith) (certify_fits 1 (pair ∷ []) numbered_pairs (omega arith)), valid (Slice (pos 5)) (omega arith) (slice_fits (pos 5) no_fault_between))
+squares_valid : IsValidInput Tilings squares_text × IsValidInput (Certify 1) squares_text
+    × IsValidInput (Slice (pos 5)) squares_text
+squares_valid = (
+  valid Tilings (omega arith) tilings_fit,
+  valid (Certify 1) (omega arith) (certify_fits 1 (pair ∷ []) numbered_pairs (omega arith)),
+  valid (Slice (pos 5)) (omega arith) (slice_fits (pos 5) no_fault_between),
+)
 
 -- a surface, edits, and a listed cost
 squares_surface : (b : Built) → AreSquares b → IsSurfaceText IsSurfaceOf squares_text byu mesh
-squares_surface b s = record { objects = file; read = read; built = b; surface = surface b s; same = sym s.mesh; written = written }
+squares_surface b s = record {
+  objects = file;
+  read = read;
+  built = b;
+  surface = surface b s;
+  same = sym s.mesh;
+  written = written;
+}
 
 squares_edited : AreEditsOf edits_input edited_text byu editing
 unfolding digits
-squares_edited = record { objects = file; tail = tail; front = edits_read; before = squares; only = refl; edited = is_editing; written = refl }
+squares_edited = record {
+  objects = file;
+  tail = tail;
+  front = edits_read;
+  before = squares;
+  only = refl;
+  edited =
+      is_editing;
+  written = refl;
+}
 
 -- the squares' text ends with a line feed
 squares_end : EndsLine squares_text
-squares_end = (codes "SECTIONS 1\nCOST span\nPAIR overlap\nSECTION 0\nCONTOUR a 4\n0 0\n10 0\n10 10\n0 10\nSECTION 10\nCONTOUR b 4\n0 0\n10 0\n10 10\n0 10\nEND", refl)
+squares_end = (
+  codes
+      "SECTIONS 1\nCOST span\nPAIR overlap\nSECTION 0\nCONTOUR a 4\n0 0\n10 0\n10 10\n0 10\nSECTION 10\nCONTOUR b 4\n0 0\n10 0\n10 10\n0 10\nEND",
+  refl,
+)
 
 listed : IsListedCost squares_text squares_tilings 1 (pos 1200)
 unfolding digits

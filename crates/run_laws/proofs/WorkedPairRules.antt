@@ -66,10 +66,13 @@ tilings_of_squares =
 
 -- ---- `certify`
 
-pub square_in_range : (z : ℕ) → z ≤ 999999 → All IsInRange (corner 0 0 z ∷ corner 10 0 z ∷ corner 10 10 z ∷ corner 0 10 z ∷ [])
+pub square_in_range : (z : ℕ) → z ≤ 999999
+    → All IsInRange (corner 0 0 z ∷ corner 10 0 z ∷ corner 10 10 z ∷ corner 0 10 z ∷ [])
 square_in_range z l =
-    let near : (x y : ℕ) → x ≤ 10 → y ≤ 10 → IsInRange (corner x y z) = λ x y h k. record { x = omega (arith, h); y = omega (arith, k); z = l } in
-    All-cons IsInRange (corner 0 0 z) (corner 10 0 z ∷ corner 10 10 z ∷ corner 0 10 z ∷ []) (near 0 0 (omega arith) (omega arith))
+    let near : (x y : ℕ) → x ≤ 10 → y ≤ 10 → IsInRange (corner x y z) =
+    λ x y h k. record { x = omega (arith, h); y = omega (arith, k); z = l } in
+    All-cons IsInRange (corner 0 0 z) (corner 10 0 z ∷ corner 10 10 z ∷ corner 0 10 z ∷ [])
+    (near 0 0 (omega arith) (omega arith))
     (All-cons IsInRange (corner 10 0 z) (corner 10 10 z ∷ corner 0 10 z ∷ []) (near 10 0 (omega arith) (omega arith))
     (All-cons IsInRange (corner 10 10 z) (corner 0 10 z ∷ []) (near 10 10 (omega arith) (omega arith))
     (All-cons IsInRange (corner 0 10 z) [] (near 0 10 (omega arith) (omega arith)) (All-nil IsInRange))))
@@ -83,7 +86,10 @@ is_strip = record {
 
 -- their potential, row by row
 abbrev numbers : List ℤ
-numbers = pos 0 ∷ pos 200 ∷ pos 500 ∷ pos 700 ∷ pos 800 ∷ pos 200 ∷ pos 300 ∷ pos 500 ∷ pos 800 ∷ pos 1000 ∷ pos 300 ∷ pos 500 ∷ pos 600 ∷ pos 800 ∷ pos 1100 ∷ pos 500 ∷ pos 800 ∷ pos 800 ∷ pos 900 ∷ pos 1100 ∷ pos 600 ∷ pos 800 ∷ pos 1100 ∷ pos 1100 ∷ pos 1200 ∷ pos 800 ∷ pos 900 ∷ pos 1100 ∷ pos 1400 ∷ pos 1400 ∷ pos 1100 ∷ pos 1100 ∷ pos 1200 ∷ pos 1400 ∷ pos 1700 ∷ pos 1300 ∷ pos 1400 ∷ pos 1400 ∷ pos 1500 ∷ pos 1700 ∷ []
+numbers = pos 0 ∷ pos 200 ∷ pos 500 ∷ pos 700 ∷ pos 800 ∷ pos 200 ∷ pos 300 ∷ pos 500 ∷ pos 800 ∷ pos 1000 ∷ pos 300
+    ∷ pos 500 ∷ pos 600 ∷ pos 800 ∷ pos 1100 ∷ pos 500 ∷ pos 800 ∷ pos 800 ∷ pos 900 ∷ pos 1100 ∷ pos 600 ∷ pos 800
+    ∷ pos 1100 ∷ pos 1100 ∷ pos 1200 ∷ pos 800 ∷ pos 900 ∷ pos 1100 ∷ pos 1400 ∷ pos 1400 ∷ pos 1100 ∷ pos 1100
+    ∷ pos 1200 ∷ pos 1400 ∷ pos 1700 ∷ pos 1300 ∷ pos 1400 ∷ pos 1400 ∷ pos 1500 ∷ pos 1700 ∷ []
 
 abbrev pub listed : {X : Type 0} → (ℕ → X) → ℕ → List X
 listed f zero = []
@@ -104,22 +110,59 @@ unfolding arcs around distance_square square distance words_with all_words poten
 all_rows = refl
 
 squares_rows : HasRows pair.strip 8 numbers
-squares_rows = record { count = refl; are = λ r c k l. same_at (value_at 4 numbers r) (potential_at pair.strip r) 5 (same_at (λ x. listed (value_at 4 numbers x) 5) (λ x. listed (potential_at pair.strip x) 5) 8 all_rows r k) c (omega (arith, l)) }
+squares_rows = record {
+  count = refl;
+  are =
+      λ r c k l. same_at (value_at 4 numbers r) (potential_at pair.strip r) 5
+      (same_at (λ x. listed (value_at 4 numbers x) 5) (λ x. listed (potential_at pair.strip x) 5) 8 all_rows r k) c
+      (omega (arith, l));
+}
 
 squares_certified : Certifies (arcs pair.strip) 4 4 4 4 (pos 1200) 0 by_turns numbers
 squares_certified = rows_certify pair.strip numbers squares_solution is_strip squares_solves squares_rows
 
 abbrev pub squares_cert : List ℕ
-squares_cert = codes "CERT 1 PAIR 1 ROWS 4 COLS 4 COST 1200 START 0\nWORD VHVHVHVH\n0 200 500 700 800\n200 300 500 800 1000\n300 500 600 800 1100\n500 800 800 900 1100\n600 800 1100 1100 1200\n800 900 1100 1400 1400\n1100 1100 1200 1400 1700\n1300 1400 1400 1500 1700\nEND\n"
+squares_cert =
+    codes
+    "CERT 1 PAIR 1 ROWS 4 COLS 4 COST 1200 START 0\nWORD VHVHVHVH\n0 200 500 700 800\n200 300 500 800 1000\n300 500 600 800 1100\n500 800 800 900 1100\n600 800 1100 1100 1200\n800 900 1100 1400 1400\n1100 1100 1200 1400 1700\n1300 1400 1400 1500 1700\nEND\n"
 
 printed : cert_text (certificate 1 pair.strip squares_solution numbers) ≡ squares_cert
 unfolding digits
 printed = refl
 
-read_back : (passed : ℕ) → ReadsAsCertificate (kept_behind passed squares_cert) (certificate 1 pair.strip squares_solution numbers)
+read_back : (passed : ℕ) → ReadsAsCertificate (kept_behind passed squares_cert)
+    (certificate 1 pair.strip squares_solution numbers)
 read_back passed = record {
-  lawful = lawful_certificate 1 pair.strip squares_solution numbers (omega arith) (omega arith) is_strip squares_certified;
-  match = ((refl, (refl, (refl, (refl, (refl, (refl, (refl, (refl, (refl, (refl, (refl, (refl, tt)))))))))))), ((refl, (refl, tt)), ((refl, (refl, (refl, (refl, (refl, tt))))), ((refl, (refl, (refl, (refl, (refl, tt))))), ((refl, (refl, (refl, (refl, (refl, tt))))), ((refl, (refl, (refl, (refl, (refl, tt))))), ((refl, (refl, (refl, (refl, (refl, tt))))), ((refl, (refl, (refl, (refl, (refl, tt))))), ((refl, (refl, (refl, (refl, (refl, tt))))), ((refl, (refl, (refl, (refl, (refl, tt))))), ((refl, tt), tt)))))))))));
+  lawful = lawful_certificate 1 pair.strip squares_solution numbers (omega arith) (omega arith) is_strip
+      squares_certified;
+  match = (
+    (refl, (refl, (refl, (refl, (refl, (refl, (refl, (refl, (refl, (refl, (refl, (refl, tt)))))))))))),
+    (
+      (refl, (refl, tt)),
+      (
+        (refl, (refl, (refl, (refl, (refl, tt))))),
+        (
+          (refl, (refl, (refl, (refl, (refl, tt))))),
+          (
+            (refl, (refl, (refl, (refl, (refl, tt))))),
+            (
+              (refl, (refl, (refl, (refl, (refl, tt))))),
+              (
+                (refl, (refl, (refl, (refl, (refl, tt))))),
+                (
+                  (refl, (refl, (refl, (refl, (refl, tt))))),
+                  (
+                    (refl, (refl, (refl, (refl, (refl, tt))))),
+                    ((refl, (refl, (refl, (refl, (refl, tt))))), ((refl, tt), tt)),
+                  ),
+                ),
+              ),
+            ),
+          ),
+        ),
+      ),
+    ),
+  );
 }
 
 tells_cert : TellsCert 1 pair.strip squares_solution (told squares_cert 1)
@@ -127,27 +170,55 @@ tells_cert = record {
   values = numbers;
   potential = squares_rows;
   holds = squares_certified;
-  reads = λ passed. subst (λ (b : List ℕ). ReadsAsCertificate (kept_behind passed b) (certificate 1 pair.strip squares_solution numbers)) (sym printed) (read_back passed);
+  reads = λ passed. subst (λ (b : List ℕ).
+      ReadsAsCertificate (kept_behind passed b) (certificate 1 pair.strip squares_solution numbers)) (sym printed)
+      (read_back passed);
   tells = ap (λ (b : List ℕ). told b 1) (sym printed);
 }
 
 -- the certificate of the first pair of two squares
 pub certified : certify 1 file (told squares_cert 1)
-certified = goes_on (pair ∷ []) (told squares_cert 1) numbered_pairs (goes_on pair (told squares_cert 1) first_pair (goes_on squares_solution (told squares_cert 1) squares_solves tells_cert))
+certified = goes_on (pair ∷ []) (told squares_cert 1) numbered_pairs
+    (goes_on pair (told squares_cert 1) first_pair
+    (goes_on squares_solution (told squares_cert 1) squares_solves tells_cert))
 
 -- ---- `check`
 
 -- the certificate of the pair
 abbrev cert : Vec ℤ Global → CertText
-cert v = record { pair = 1; cert = record { rows = 4; cols = 4; cost = pos 1200; tiling = record { row = 0; word = list_at v by_turns tt }; pi = list_at v numbers tt } }
+cert v = record {
+  pair = 1;
+  cert =
+      record {
+        rows = 4;
+        cols = 4;
+        cost = pos 1200;
+        tiling = record { row = 0; word = list_at v by_turns tt };
+        pi =
+            list_at v numbers tt;
+      };
+}
 
 -- its tiling is least
 least : (v : Vec ℤ Global) → HasLeastTiling pair.strip (cert v).cert
-least v = record { acceptable = squares_certified.acceptable; cost = squares_certified.costs; least = λ i j w a. solves_least pair.strip squares_solution squares_solves i j w a }
+least v = record {
+  acceptable = squares_certified.acceptable;
+  cost = squares_certified.costs;
+  least =
+      λ i j w a. solves_least pair.strip squares_solution squares_solves i j w a;
+}
 
 only_accept : (p : Strip) (k : Cert) (other : Verdict) → Holds p k → IsVerdict p k other → other ≡ Accept
 only_accept p k Accept h o = refl
-only_accept p k Size h o = absurd (o (record { rows_same = h.rows; cols_same = h.cols; count = h.size; cost_modest = h.cost_modest; values_modest = h.values_modest }))
+only_accept p k Size h o = absurd (o
+    (record {
+      rows_same = h.rows;
+      cols_same = h.cols;
+      count = h.size;
+      cost_modest = h.cost_modest;
+      values_modest =
+          h.values_modest;
+    }))
 only_accept p k Word h o = absurd (o.1 h.acceptable)
 only_accept p k Cost h o = absurd (o.2 h.costs)
 only_accept p k (Arc i j s) h o = absurd (o.3.fails (h.steps i j s))
@@ -155,18 +226,30 @@ only_accept p k (Turn i) h o = absurd (o.4.fails (h.turns i))
 
 accepts : (v : Vec ℤ Global) → TellsVerdict pair.strip (cert v) (told (codes "ACCEPT PAIR 1 COST 1200\n") 0)
 unfolding digits
-accepts v = record { verdict = Accept; judges = squares_certified; only = λ other o. only_accept pair.strip (cert v).cert other squares_certified o; sound = λ e. least v; tells = refl }
+accepts v = record {
+  verdict = Accept;
+  judges = squares_certified;
+  only =
+      λ other o. only_accept pair.strip (cert v).cert other squares_certified o;
+  sound = λ e. least v;
+  tells = refl;
+}
 
 -- the text of the certificate after 16 lines
 abbrev cert_tail : List Kept
 cert_tail = kept_behind 16 squares_cert
 
 verdicts : (v : Vec ℤ Global) → verdict 27 file cert_tail (told (codes "ACCEPT PAIR 1 COST 1200\n") 0)
-verdicts v = goes_on (pair ∷ []) (told (codes "ACCEPT PAIR 1 COST 1200\n") 0) numbered_pairs (goes_on (cert v) (told (codes "ACCEPT PAIR 1 COST 1200\n") 0) (read_back 16) (goes_on pair (told (codes "ACCEPT PAIR 1 COST 1200\n") 0) first_pair (accepts v)))
+verdicts v = goes_on (pair ∷ []) (told (codes "ACCEPT PAIR 1 COST 1200\n") 0) numbered_pairs
+    (goes_on (cert v) (told (codes "ACCEPT PAIR 1 COST 1200\n") 0) (read_back 16)
+    (goes_on pair (told (codes "ACCEPT PAIR 1 COST 1200\n") 0) first_pair (accepts v)))
 
 -- a whole input: the squares, and their certificate after END
 abbrev certified_text : List ℕ
-certified_text = codes "SECTIONS 1\nCOST span\nPAIR overlap\nSECTION 0\nCONTOUR a 4\n0 0\n10 0\n10 10\n0 10\nSECTION 10\nCONTOUR b 4\n0 0\n10 0\n10 10\n0 10\nEND\nCERT 1 PAIR 1 ROWS 4 COLS 4 COST 1200 START 0\nWORD VHVHVHVH\n0 200 500 700 800\n200 300 500 800 1000\n300 500 600 800 1100\n500 800 800 900 1100\n600 800 1100 1100 1200\n800 900 1100 1400 1400\n1100 1100 1200 1400 1700\n1300 1400 1400 1500 1700\nEND\n"
+certified_text =
+    codes
+    "SECTIONS 1\nCOST span\nPAIR overlap\nSECTION 0\nCONTOUR a 4\n0 0\n10 0\n10 10\n0 10\nSECTION 10\nCONTOUR b 4\n0 0\n10 0\n10 10\n0 10\nEND\nCERT 1 PAIR 1 ROWS 4 COLS 4 COST 1200 START 0\nWORD VHVHVHVH\n0 200 500 700 800\n200 300 500 800 1000\n300 500 600 800 1100\n500 800 800 900 1100\n600 800 1100 1100 1200\n800 900 1100 1400 1400\n1100 1100 1200 1400 1700\n1300 1400 1400 1500 1700\nEND\n"
 
 checks : (v : Vec ℤ Global) → check certified_text (told (codes "ACCEPT PAIR 1 COST 1200\n") 0)
-checks v = goes_on (file, cert_tail) (told (codes "ACCEPT PAIR 1 COST 1200\n") 0) (file_holds Two (kept_lines certified_text)) (verdicts v)
+checks v = goes_on (file, cert_tail) (told (codes "ACCEPT PAIR 1 COST 1200\n") 0)
+    (file_holds Two (kept_lines certified_text)) (verdicts v)

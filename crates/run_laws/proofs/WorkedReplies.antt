@@ -21,7 +21,8 @@ unfolding digits
 fault_written = (refl, codes "1 FORM line 1", refl, refl, refl)
 
 -- the words of a later refusal, with how many pairs were counted before it
-later_written : IsWritten (refused_after (codes "28 MID 7 NO CONTOURS") 3) Refused (codes "REFUSED 28 MID 7 NO CONTOURS\n") 3
+later_written : IsWritten (refused_after (codes "28 MID 7 NO CONTOURS") 3) Refused
+    (codes "REFUSED 28 MID 7 NO CONTOURS\n") 3
 later_written = (refl, refl, refl)
 
 -- a count rises by the number of pairs, up to the last value of its counter; for 0 pairs it stays, whatever it is
@@ -47,5 +48,6 @@ fault_given = record { text = tt; fault = inr (refl, refl); later = omega arith 
 text_answered : (v : Vec ℕ Global) → v.items ≡ 82 ∷ [] → IsAnswer (Ok v) (record { status = Done; text = Made v })
 text_answered v e = (refl, refl)
 
-fault_answered : (t : AnswerText) → text_bytes t ≡ codes "REFUSED 6 END MISSING\n" → IsAnswer (Err EndMissing) (record { status = Refused; text = t })
+fault_answered : (t : AnswerText) → text_bytes t ≡ codes "REFUSED 6 END MISSING\n"
+    → IsAnswer (Err EndMissing) (record { status = Refused; text = t })
 fault_answered t e = ((refl, codes "6 END MISSING", refl, e, refl), λ s. absurd (cc))

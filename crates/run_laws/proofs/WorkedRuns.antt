@@ -29,10 +29,19 @@ task command = record { command = command; workers = Some 1 }
 -- ---- what is written for an input
 
 tilings_answered : Answers Tilings squares_text Done squares_tilings 1
-tilings_answered = (told squares_tilings 1, goes_on squares_text (told squares_tilings 1) (omega arith, refl) (goes_on file (told squares_tilings 1) read tilings_of_squares), (refl, refl, refl))
+tilings_answered = (
+  told squares_tilings 1,
+  goes_on squares_text (told squares_tilings 1) (omega arith, refl)
+      (goes_on file (told squares_tilings 1) read tilings_of_squares),
+  (refl, refl, refl),
+)
 
 squares_answered : (b : Built) → AreSquares b → Answers Reconstruct squares_text Done byu 1
-squares_answered b s = (told byu 1, goes_on squares_text (told byu 1) (omega arith, refl) (goes_on file (told byu 1) read (reconstruct_squares b s)), (refl, refl, refl))
+squares_answered b s = (
+  told byu 1,
+  goes_on squares_text (told byu 1) (omega arith, refl) (goes_on file (told byu 1) read (reconstruct_squares b s)),
+  (refl, refl, refl),
+)
 
 -- two squares and three lines of edits after END
 abbrev pub edits_input : List ℕ
@@ -42,7 +51,12 @@ pub edits_read : IsFront edits_input (file, tail)
 edits_read = file_holds Two (kept_lines edits_input)
 
 edits_answered : (b : Built) → AreSquares b → Answers Edit edits_input Done edited_text 1
-edits_answered b s = (told edited_text 1, goes_on edits_input (told edited_text 1) (omega arith, refl) (goes_on (file, tail) (told edited_text 1) edits_read (edit_squares b s)), (refl, refl, refl))
+edits_answered b s = (
+  told edited_text 1,
+  goes_on edits_input (told edited_text 1) (omega arith, refl)
+      (goes_on (file, tail) (told edited_text 1) edits_read (edit_squares b s)),
+  (refl, refl, refl),
+)
 
 -- ---- words
 
@@ -73,14 +87,17 @@ unfolding clap_on_literals meaning where_taken
 ringcaps_meaning = refl
 
 -- and what is written for them; without a meaning the usage line
-out_of : (words : List (List ℕ)) (m : Option Task) (input : List ℕ) (s : Status) (text : List ℕ) (n : ℕ) → meaning words ≡ m → IsOutOf m input s text n → IsOut words input s text n
+out_of : (words : List (List ℕ)) (m : Option Task) (input : List ℕ) (s : Status) (text : List ℕ) (n : ℕ)
+    → meaning words ≡ m → IsOutOf m input s text n → IsOut words input s text n
 out_of words m input s text n e is = subst (λ (o : Option Task). IsOutOf o input s text n) (sym e) is
 
 tilings_out : IsOut tilings_words squares_text Done squares_tilings 1
-tilings_out = out_of tilings_words (Some (task Tilings)) squares_text Done squares_tilings 1 tilings_meaning tilings_answered
+tilings_out = out_of tilings_words (Some (task Tilings)) squares_text Done squares_tilings 1 tilings_meaning
+    tilings_answered
 
 squares_out : (b : Built) → AreSquares b → IsOut reconstruct_words squares_text Done byu 1
-squares_out b s = out_of reconstruct_words (Some (task Reconstruct)) squares_text Done byu 1 reconstruct_meaning (squares_answered b s)
+squares_out b s = out_of reconstruct_words (Some (task Reconstruct)) squares_text Done byu 1 reconstruct_meaning
+    (squares_answered b s)
 
 bad_out : (input : List ℕ) → IsOut [] input BadWords usage 0
 bad_out input = out_of [] None input BadWords usage 0 no_meaning (refl, refl, refl)
@@ -104,17 +121,24 @@ abbrev tiled : List ℕ → Outside
 tiled text = without_fault squares_text [] text
 
 same_input : (input : List ℕ) → IsInput tilings_words (Some squares_text) input → squares_text ≡ input
-same_input input given = let e : Some squares_text ≡ Some input = given (subst ReadsInput (sym tilings_meaning) refl) in cc
+same_input input given = let e : Some squares_text ≡ Some input = given (subst ReadsInput (sym tilings_meaning) refl) in
+    cc
 
 -- the whole tiling after what was written before
 whole_tiling : WritesWhole tilings_words (tiled squares_tilings) Done
-whole_tiling input given = (squares_tilings, 1, subst (λ (i : List ℕ). IsOut tilings_words i Done squares_tilings 1) (same_input input given) tilings_out, refl)
+whole_tiling input given = (
+  squares_tilings,
+  1,
+  subst (λ (i : List ℕ). IsOut tilings_words i Done squares_tilings 1) (same_input input given) tilings_out,
+  refl,
+)
 
 read_to_the_end : (o : Outside) → o.left ≡ Some squares_text → o.left_after ≡ Some [] → ReadsToEnd tilings_words o
 read_to_the_end o e f = ends_reading tilings_words o (task Tilings) tilings_meaning (rw (e, f) (λ r w. refl))
 
 tilings_run : IsRun tilings_words (tiled squares_tilings) Done
-tilings_run = is_run tilings_words (tiled squares_tilings) Done (subst IsSome (sym tilings_meaning) refl, whole_tiling, read_to_the_end (tiled squares_tilings) refl refl)
+tilings_run = is_run tilings_words (tiled squares_tilings) Done
+    (subst IsSome (sym tilings_meaning) refl, whole_tiling, read_to_the_end (tiled squares_tilings) refl refl)
 
 -- the usage line, with the input unread
 bad_words_run : (left : List ℕ) → IsRun [] (without_fault left left usage) BadWords
@@ -125,10 +149,19 @@ abbrev cut_off : Outside
 cut_off = record (tiled (codes "PAIR")) { write_faults_after = 1 }
 
 front_of_the_tiling : WritesFront tilings_words cut_off
-front_of_the_tiling input given = (Done, squares_tilings, 1, 4, subst (λ (i : List ℕ). IsOut tilings_words i Done squares_tilings 1) (same_input input given) tilings_out, omega arith, refl)
+front_of_the_tiling input given = (
+  Done,
+  squares_tilings,
+  1,
+  4,
+  subst (λ (i : List ℕ). IsOut tilings_words i Done squares_tilings 1) (same_input input given) tilings_out,
+  omega arith,
+  refl,
+)
 
 cut_off_run : IsRun tilings_words cut_off WriteFault
-cut_off_run = is_run tilings_words cut_off WriteFault (omega arith, front_of_the_tiling, read_to_the_end cut_off refl refl)
+cut_off_run = is_run tilings_words cut_off WriteFault
+    (omega arith, front_of_the_tiling, read_to_the_end cut_off refl refl)
 
 -- ---- the solver
 

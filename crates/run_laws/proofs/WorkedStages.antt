@@ -22,12 +22,19 @@ use Rattle.run_laws.proofs.WorkedSurfaceRules.{file}
 abbrev echo : List ℕ → Reply → Type 0
 echo bytes = Tells bytes 0
 
-inputs : on_input (Some 3) echo (codes "abc") (told (codes "abc") 0) × on_input (Some 3) echo (codes "abcd") (refused (Limit Bytes 0)) × on_input None echo (codes "abc") (told [] 0)
-inputs = (goes_on (codes "abc") (told (codes "abc") 0) (omega arith, refl) refl, fails (Limit Bytes 0) (omega arith, refl), refl)
+inputs : on_input (Some 3) echo (codes "abc") (told (codes "abc") 0)
+    × on_input (Some 3) echo (codes "abcd") (refused (Limit Bytes 0)) × on_input None echo (codes "abc") (told [] 0)
+inputs = (
+  goes_on (codes "abc") (told (codes "abc") 0) (omega arith, refl) refl,
+  fails (Limit Bytes 0) (omega arith, refl),
+  refl,
+)
 
 -- two equal squares, one above the other, with one line after a comment, which is their tail
 abbrev with_tail : List ℕ
-with_tail = codes "SECTIONS 1\nCOST span\nPAIR overlap\nSECTION 0\nCONTOUR a 4\n0 0\n10 0\n10 10\n0 10\nSECTION 10\nCONTOUR b 4\n0 0\n10 0\n10 10\n0 10\nEND\n# behind\nX 1\n"
+with_tail =
+    codes
+    "SECTIONS 1\nCOST span\nPAIR overlap\nSECTION 0\nCONTOUR a 4\n0 0\n10 0\n10 10\n0 10\nSECTION 10\nCONTOUR b 4\n0 0\n10 0\n10 10\n0 10\nEND\n# behind\nX 1\n"
 
 abbrev tail : List Kept
 tail = (18, codes "X" ∷ codes "1" ∷ []) ∷ []

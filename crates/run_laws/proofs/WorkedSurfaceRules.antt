@@ -64,13 +64,18 @@ told_as e d = ap₂ (λ (x : List ℕ) (y : ℕ). told x y) e d
 -- ---- count: a triangle with both its sides
 
 abbrev both : Surface
-both = record { vertices = corner 0 0 0 ∷ corner 10 0 0 ∷ corner 0 10 0 ∷ []; parts = ((0 ∷ 1 ∷ 2 ∷ []) ∷ (0 ∷ 2 ∷ 1 ∷ []) ∷ []) ∷ [] }
+both = record {
+  vertices = corner 0 0 0 ∷ corner 10 0 0 ∷ corner 0 10 0 ∷ [];
+  parts =
+      ((0 ∷ 1 ∷ 2 ∷ []) ∷ (0 ∷ 2 ∷ 1 ∷ []) ∷ []) ∷ [];
+}
 
 abbrev pub both_text : List ℕ
 both_text = codes "PARTS 1\nVERTICES 3\nPOLYGONS 2\nEDGES 3\nCLOSED yes\n"
 
 both_closed : All IsClosed both.parts
-both_closed = All-cons IsClosed (get_or both.parts 0 []) [] (closed (get_or both.parts 0 []) (λ f. omega arith)) (All-nil IsClosed)
+both_closed = All-cons IsClosed (get_or both.parts 0 []) [] (closed (get_or both.parts 0 []) (λ f. omega arith))
+    (All-nil IsClosed)
 
 -- it is closed
 closed_told : TellsCounts both (told both_text 0)
@@ -78,14 +83,20 @@ unfolding digits
 closed_told = record { closed = true; says = ((λ e. both_closed), λ h. refl); tells = refl }
 
 abbrev pub both_byu : List ℕ
-both_byu = codes "       1       3       2       6\n" ++ (codes "       1       2\n" ++ (codes " 0.00000E+00 0.00000E+00 0.00000E+00 1.00000E+01 0.00000E+00 0.00000E+00\n" ++ (codes " 0.00000E+00 1.00000E+01 0.00000E+00\n" ++ (codes "       1       2      -3\n" ++ codes "       1       3      -2\n"))))
+both_byu = codes "       1       3       2       6\n"
+    ++ (codes "       1       2\n" ++ (codes
+    " 0.00000E+00 0.00000E+00 0.00000E+00 1.00000E+01 0.00000E+00 0.00000E+00\n"
+    ++ (codes " 0.00000E+00 1.00000E+01 0.00000E+00\n"
+    ++ (codes "       1       2      -3\n" ++ codes "       1       3      -2\n"))))
 
 both_read : ReadsAsMesh both_byu both
 unfolding digits
 both_read = record {
   mesh = record {
     valid = valid_from_test both refl;
-    triangles = All-cons (All (λ ids. length ids ≡ 3)) (get_or both.parts 0 []) [] (All-from_recursion (λ ids. length ids ≡ 3) (get_or both.parts 0 []) (refl, (refl, tt))) (All-nil (All (λ ids. length ids ≡ 3)));
+    triangles = All-cons (All (λ ids. length ids ≡ 3)) (get_or both.parts 0 []) []
+        (All-from_recursion (λ ids. length ids ≡ 3) (get_or both.parts 0 []) (refl, (refl, tt)))
+        (All-nil (All (λ ids. length ids ≡ 3)));
   };
   same = refl;
 }
@@ -98,8 +109,11 @@ count_of_both = goes_on both (told both_text 0) both_read closed_told
 
 abbrev pub mesh : Surface
 mesh = record {
-  vertices = corner 0 0 0 ∷ corner 10 0 0 ∷ corner 10 10 0 ∷ corner 0 10 0 ∷ corner 0 0 10 ∷ corner 10 0 10 ∷ corner 10 10 10 ∷ corner 0 10 10 ∷ [];
-  parts = ((3 ∷ 1 ∷ 0 ∷ []) ∷ (1 ∷ 3 ∷ 2 ∷ []) ∷ (0 ∷ 1 ∷ 4 ∷ []) ∷ (5 ∷ 4 ∷ 1 ∷ []) ∷ (1 ∷ 2 ∷ 5 ∷ []) ∷ (6 ∷ 5 ∷ 2 ∷ []) ∷ (2 ∷ 3 ∷ 6 ∷ []) ∷ (7 ∷ 6 ∷ 3 ∷ []) ∷ (3 ∷ 0 ∷ 7 ∷ []) ∷ (4 ∷ 7 ∷ 0 ∷ []) ∷ (7 ∷ 4 ∷ 5 ∷ []) ∷ (5 ∷ 6 ∷ 7 ∷ []) ∷ []) ∷ [];
+  vertices = corner 0 0 0 ∷ corner 10 0 0 ∷ corner 10 10 0 ∷ corner 0 10 0 ∷ corner 0 0 10 ∷ corner 10 0 10
+      ∷ corner 10 10 10 ∷ corner 0 10 10 ∷ [];
+  parts = ((3 ∷ 1 ∷ 0 ∷ []) ∷ (1 ∷ 3 ∷ 2 ∷ []) ∷ (0 ∷ 1 ∷ 4 ∷ []) ∷ (5 ∷ 4 ∷ 1 ∷ []) ∷ (1 ∷ 2 ∷ 5 ∷ [])
+      ∷ (6 ∷ 5 ∷ 2 ∷ []) ∷ (2 ∷ 3 ∷ 6 ∷ []) ∷ (7 ∷ 6 ∷ 3 ∷ []) ∷ (3 ∷ 0 ∷ 7 ∷ []) ∷ (4 ∷ 7 ∷ 0 ∷ []) ∷ (7 ∷ 4 ∷ 5 ∷ [])
+      ∷ (5 ∷ 6 ∷ 7 ∷ []) ∷ []) ∷ [];
 }
 
 abbrev triangles : List (List ℕ)
@@ -117,7 +131,10 @@ mesh_closed = All-cons IsClosed triangles [] triangles_closed (All-nil IsClosed)
 volume : (o : Point) → six_volume mesh o ≡ six_volume mesh origin
 volume o =
     ap (λ (v : ℤ). v +ℤ pos 0)
-    (volume_anywhere mesh.vertices triangles o origin (All-from_recursion HasThree triangles (refl, (refl, (refl, (refl, (refl, (refl, (refl, (refl, (refl, (refl, (refl, (refl, tt))))))))))))) triangles_closed)
+    (volume_anywhere mesh.vertices triangles o origin
+    (All-from_recursion HasThree triangles
+    (refl, (refl, (refl, (refl, (refl, (refl, (refl, (refl, (refl, (refl, (refl, (refl, tt)))))))))))))
+    triangles_closed)
 
 -- its text in the layout of a polygon file
 abbrev pub byu : List ℕ
@@ -146,7 +163,9 @@ unfolding digits
 written = refl
 
 abbrev pub squares_text : List ℕ
-squares_text = codes "SECTIONS 1\nCOST span\nPAIR overlap\nSECTION 0\nCONTOUR a 4\n0 0\n10 0\n10 10\n0 10\nSECTION 10\nCONTOUR b 4\n0 0\n10 0\n10 10\n0 10\nEND\n"
+squares_text =
+    codes
+    "SECTIONS 1\nCOST span\nPAIR overlap\nSECTION 0\nCONTOUR a 4\n0 0\n10 0\n10 10\n0 10\nSECTION 10\nCONTOUR b 4\n0 0\n10 0\n10 10\n0 10\nEND\n"
 
 abbrev pub file : FileParts
 file = as_file squares
@@ -163,10 +182,28 @@ pub record AreSquares (b : Built) : Type 0 where
 
 -- there is one, with any allocator
 abbrev vec : {X : Type 0} → Global → (items : List X) → length items < 2 ^ 63 → Vec X Global
-vec g items small = record { ptr = null_ptr; len = length items; cap = length items; alloc = g; items = items; ok = (refl, omega arith); small = small }
+vec g items small = record {
+  ptr = null_ptr;
+  len = length items;
+  cap = length items;
+  alloc = g;
+  items = items;
+  ok =
+      (refl, omega arith);
+  small = small;
+}
 
 pub some_squares : (g : Global) → (b : Built) × AreSquares b
-some_squares g = (record { mesh = record { vertices = vec g mesh.vertices (omega arith); parts = vec g (vec g triangles (omega arith) ∷ []) (omega arith) }; pairs = 1; cost = pos 1200; folded = 0 }, record { mesh = refl; pairs = refl; cost = refl; folded = refl })
+some_squares g = (
+  record {
+    mesh = record
+        { vertices = vec g mesh.vertices (omega arith); parts = vec g (vec g triangles (omega arith) ∷ []) (omega arith) };
+    pairs = 1;
+    cost = pos 1200;
+    folded = 0;
+  },
+  record { mesh = refl; pairs = refl; cost = refl; folded = refl },
+)
 
 pub squares_solves : Solves pair.strip squares_solution
 unfolding arcs
@@ -175,7 +212,8 @@ squares_solves = record { chosen = squares_solved.chosen; cost = squares_solved.
 pub pair_solved : SolvesEach (pair.strip ∷ []) (squares_solution ∷ [])
 pair_solved = record { count = refl; each = each }
   where
-    each : (k : ℕ) (p : Strip) (s : Solution) → k < 1 → Solves (slice_index_or (pair.strip ∷ []) k p) (slice_index_or (squares_solution ∷ []) k s)
+    each : (k : ℕ) (p : Strip) (s : Solution) → k < 1
+        → Solves (slice_index_or (pair.strip ∷ []) k p) (slice_index_or (squares_solution ∷ []) k s)
     each zero p s l = squares_solves
     each (suc k) p s l = absurd (omega (arith, l))
 
@@ -252,7 +290,17 @@ ring_built b s = record {
 plain_mesh : ArePlainSurfaces file mesh
 plain_mesh = record {
   each = mesh ∷ [];
-  plain = (record { pairs = pair ∷ []; solutions = squares_solution ∷ []; are_pairs = squares_paired; chosen = pair_solved; surface = made }, tt);
+  plain = (
+    record {
+      pairs = pair ∷ [];
+      solutions = squares_solution ∷ [];
+      are_pairs = squares_paired;
+      chosen =
+          pair_solved;
+      surface = made;
+    },
+    tt,
+  );
   whole = refl;
 }
 
@@ -273,7 +321,8 @@ abbrev pub eight_lines : List ℕ
 eight_lines = codes "SECTIONS 2\nCONTOURS 2\nVERTICES 8\nTRIANGLES 12\nFOLDED 0\nPAIRS 1\nCOST 1200\nSIXVOLUME 6000\n"
 
 abbrev text_from : Surface → ℕ → ℕ → ℤ → List ℕ
-text_from m folded pairs cost = sizes_text 2 2 (length m.vertices) (sum_by length m.parts) ++ four_measures folded pairs cost (six_volume m origin)
+text_from m folded pairs cost = sizes_text 2 2 (length m.vertices) (sum_by length m.parts)
+    ++ four_measures folded pairs cost (six_volume m origin)
 
 counted : text_from mesh 0 1 (pos 1200) ≡ eight_lines
 unfolding digits
@@ -288,7 +337,8 @@ report_of_squares b s =
     ∙ ap (λ (c : ℤ). text_from mesh 0 1 c) s.cost
     ∙ counted
 
-volume_of : (b : Built) → AreSquares b → (o : Point) → six_volume (surface_of b.mesh) o ≡ six_volume (surface_of b.mesh) origin
+volume_of : (b : Built) → AreSquares b → (o : Point)
+    → six_volume (surface_of b.mesh) o ≡ six_volume (surface_of b.mesh) origin
 volume_of b s = subst (λ (m : Surface). (o : Point) → six_volume m o ≡ six_volume m origin) (sym s.mesh) volume
 
 -- `report` replies with it, without a head
@@ -298,16 +348,19 @@ report_squares b s =
     (record { volume = volume_of b s; tells = told_as (sym (report_of_squares b s)) (sym s.pairs) })
 
 -- a made stack is reported after its own line
-demo_reported : (b : Built) → IsSurfaceOfOne (demo 7 1 3) b → ((o : Point) → six_volume (surface_of b.mesh) o ≡ six_volume (surface_of b.mesh) origin)
+demo_reported : (b : Built) → IsSurfaceOfOne (demo 7 1 3) b
+    → ((o : Point) → six_volume (surface_of b.mesh) o ≡ six_volume (surface_of b.mesh) origin)
     → demo_report 7 1 3 (told (codes "DEMO 7 1 3\n" ++ report_text (demo 7 1 3).sections b) b.pairs)
 unfolding digits
-demo_reported b is v = goes_on b (told (codes "DEMO 7 1 3\n" ++ report_text (demo 7 1 3).sections b) b.pairs) is (record { volume = v; tells = refl })
+demo_reported b is v = goes_on b (told (codes "DEMO 7 1 3\n" ++ report_text (demo 7 1 3).sections b) b.pairs) is
+    (record { volume = v; tells = refl })
 
 -- ---- slice: the squares half way up
 
 -- heights below all sections and between them
 below_all : IsOutside squares (negsuc 0)
-below_all = inl (All-from_recursion (λ (s : SectionParts). negsuc 0 <ℤ s.z) squares.sections (omega (arith, ints), (omega (arith, ints), tt)))
+below_all = inl (All-from_recursion (λ (s : SectionParts). negsuc 0 <ℤ s.z) squares.sections
+    (omega (arith, ints), (omega (arith, ints), tt)))
 
 not_outside : IsOutside squares (pos 5) → ⊥
 not_outside (inl all) = absurd (omega (arith, ints, all 0 no_section (omega arith)))
@@ -319,15 +372,18 @@ not_on_section (suc zero, l, e) = absurd (omega (arith, ints, e))
 not_on_section (suc (suc k), l, e) = absurd (omega (arith, l))
 
 -- a height below all sections is outside, and that of a section is on it
-no_slice : IsHeightFaultOfAll file (negsuc 0) (Outside (negsuc 0)) × IsHeightFaultOfAll file (pos 10) (OnSection (pos 10))
+no_slice : IsHeightFaultOfAll file (negsuc 0) (Outside (negsuc 0))
+    × IsHeightFaultOfAll file (pos 10) (OnSection (pos 10))
 no_slice = (
-  outside (All-cons (λ (S : Parts). IsOutside S (negsuc 0)) squares [] below_all (All-nil (λ (S : Parts). IsOutside S (negsuc 0)))),
+  outside (All-cons (λ (S : Parts). IsOutside S (negsuc 0)) squares [] below_all
+      (All-nil (λ (S : Parts). IsOutside S (negsuc 0)))),
   on_section 0 squares refl (1, omega arith, refl),
 )
 
 pub no_fault_between : (fault : Fault) → IsHeightFaultOfAll file (pos 5) fault → ⊥
 no_fault_between _ (outside all) = not_outside (all 0 squares (omega arith))
-no_fault_between _ (on_section zero S there on) = let same : squares ≡ S = cc in not_on_section (subst (λ (T : Parts). IsOnSection T (pos 5)) (sym same) on)
+no_fault_between _ (on_section zero S there on) = let same : squares ≡ S = cc in
+    not_on_section (subst (λ (T : Parts). IsOnSection T (pos 5)) (sym same) on)
 no_fault_between _ (on_section (suc k) S there on) = absurd (cc)
 
 abbrev cut : ℕ → ℕ → Cut
@@ -338,14 +394,18 @@ pub record IsHalfWay (s : SliceLoops) : Type 0 where
   pub den : s.den ≡ pos 10
   pub loop : Vec Cut Global
   pub loops : s.loops.items ≡ loop ∷ []
-  pub points : loop.items ≡ cut 0 0 ∷ cut 50 0 ∷ cut 100 0 ∷ cut 100 50 ∷ cut 100 100 ∷ cut 50 100 ∷ cut 0 100 ∷ cut 0 50 ∷ []
+  pub points : loop.items ≡ cut 0 0 ∷ cut 50 0 ∷ cut 100 0 ∷ cut 100 50 ∷ cut 100 100 ∷ cut 50 100 ∷ cut 0 100
+      ∷ cut 0 50 ∷ []
 
 -- there are such loops, with any allocator
 pub some_loops : (g : Global) → (s : SliceLoops) × IsHalfWay s
 some_loops g =
-    let points : List Cut = cut 0 0 ∷ cut 50 0 ∷ cut 100 0 ∷ cut 100 50 ∷ cut 100 100 ∷ cut 50 100 ∷ cut 0 100 ∷ cut 0 50 ∷ [] in
-    let loop : Vec Cut Global = vec g points (omega arith) in
-    (record { den = pos 10; loops = vec g (loop ∷ []) (omega arith) }, record { den = refl; loop = loop; loops = refl; points = refl })
+    let points : List Cut = cut 0 0 ∷ cut 50 0 ∷ cut 100 0 ∷ cut 100 50 ∷ cut 100 100 ∷ cut 50 100 ∷ cut 0 100
+    ∷ cut 0 50 ∷ [] in
+    let loop : Vec Cut Global = vec g points (omega arith) in (
+      record { den = pos 10; loops = vec g (loop ∷ []) (omega arith) },
+      record { den = refl; loop = loop; loops = refl; points = refl },
+    )
 
 -- they are the cut of the squares at the height 5
 half_way : (s : SliceLoops) → IsHalfWay s → IsCut (pos 5) squares (Some s)

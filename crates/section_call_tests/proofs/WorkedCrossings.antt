@@ -34,7 +34,8 @@ apart : Touch left right → ⊥
 unfolding around
 apart t = by_edges t.e t.within t.edge.f t.edge.within t.edge.meet
   where
-    by_edges : (e : ℕ) → e < 3 → (f : ℕ) → f < 3 → SharePoint (around left e) (around left (suc e)) (around right f) (around right (suc f)) → ⊥
+    by_edges : (e : ℕ) → e < 3 → (f : ℕ) → f < 3
+        → SharePoint (around left e) (around left (suc e)) (around right f) (around right (suc f)) → ⊥
     by_edges zero l zero k m = omega (arith, ints, (beside _ _ _ _ m).1)
     by_edges zero l (suc zero) k m = omega (arith, ints, (beside _ _ _ _ m).1)
     by_edges zero l (suc (suc zero)) k m = omega (arith, ints, (beside _ _ _ _ m).1)
@@ -49,7 +50,42 @@ apart t = by_edges t.e t.within t.edge.f t.edge.within t.edge.meet
 
 touches : Touch left between × Touch right between
 unfolding around
-touches = (record { e = 0; within = omega arith; edge = record { f = 0; within = omega arith; meet = record { s = 1; t = 0; e = 1; at = record { positive = omega arith; on_first = omega arith; on_second = omega arith; x = refl; y = refl } } } }, record { e = 0; within = omega arith; edge = record { f = 0; within = omega arith; meet = record { s = 0; t = 1; e = 1; at = record { positive = omega arith; on_first = omega arith; on_second = omega arith; x = refl; y = refl } } } })
+touches = (
+  record {
+    e = 0;
+    within = omega arith;
+    edge =
+        record {
+          f = 0;
+          within = omega arith;
+          meet =
+              record {
+                s = 1;
+                t = 0;
+                e = 1;
+                at =
+                    record { positive = omega arith; on_first = omega arith; on_second = omega arith; x = refl; y = refl };
+              };
+        };
+  },
+  record {
+    e = 0;
+    within = omega arith;
+    edge =
+        record {
+          f = 0;
+          within = omega arith;
+          meet =
+              record {
+                s = 0;
+                t = 1;
+                e = 1;
+                at =
+                    record { positive = omega arith; on_first = omega arith; on_second = omega arith; x = refl; y = refl };
+              };
+        };
+  },
+)
 
 abbrev contours : List (List Point)
 contours = left ∷ right ∷ between ∷ []
@@ -59,7 +95,14 @@ names = codes "a" ∷ codes "b" ∷ codes "c" ∷ []
 
 -- the first pair is that of the first and the third contour
 first_crossing : AreCrossing names contours (codes "a") (codes "c")
-first_crossing = record { i = 0; j = 2; pair = record { ordered = omega arith; within = omega arith; related = touches.0; first = none_before }; first = refl; second = refl }
+first_crossing = record {
+  i = 0;
+  j = 2;
+  pair =
+      record { ordered = omega arith; within = omega arith; related = touches.0; first = none_before };
+  first = refl;
+  second = refl;
+}
   where
     none_before : (g h : ℕ) → g < h → h < 3 → (g < 0) ⊎ ((g ≡ 0) × (h < 2)) → ContoursTouch contours g h → ⊥
     none_before zero zero o w b t = omega (arith, o)
@@ -68,8 +111,15 @@ first_crossing = record { i = 0; j = 2; pair = record { ordered = omega arith; w
     none_before g h o w (inr s) t = omega (arith, o, s.0, s.1)
 
 -- a later pair is not reported, nor the same pair in reverse, nor another fault
-no_crossing : (IsCrossing names contours (Crossing (codes "b") (codes "c")) → ⊥) × (IsCrossing names contours (Crossing (codes "c") (codes "a")) → ⊥) × (IsCrossing names contours EndMissing → ⊥) × (IsCrossing names contours (SelfCrossing (codes "a") 0 2) → ⊥)
-no_crossing = ((λ c. later c.i c.j c.pair c.first), (λ c. turned c.i c.j c.pair.ordered c.pair.within c.first), (λ h. h), λ h. h)
+no_crossing : (IsCrossing names contours (Crossing (codes "b") (codes "c")) → ⊥)
+    × (IsCrossing names contours (Crossing (codes "c") (codes "a")) → ⊥) × (IsCrossing names contours EndMissing → ⊥)
+    × (IsCrossing names contours (SelfCrossing (codes "a") 0 2) → ⊥)
+no_crossing = (
+  (λ c. later c.i c.j c.pair c.first),
+  (λ c. turned c.i c.j c.pair.ordered c.pair.within c.first),
+  (λ h. h),
+  λ h. h,
+)
   where
     later : (i j : ℕ) → FirstPair (ContoursTouch contours) 3 i j → codes "b" ≡ slice_index_or names i [] → ⊥
     later zero j p e = iff_false (bytes_eq-Decides (codes "b") (codes "a")) refl e

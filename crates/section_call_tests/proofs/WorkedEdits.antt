@@ -34,10 +34,12 @@ place x y = record { x = pos x; y = pos y }
 abbrev ends : List Place
 ends = place 0 0 ∷ place 5 0 ∷ []
 
-insert_words : IsReading (codes "INSERT" ∷ codes "b_2" ∷ codes "004" ∷ codes "-999999" ∷ codes "-0" ∷ []) (Ok (Insert (codes "b_2") 4 (negsuc 999998) (pos 0)))
+insert_words : IsReading (codes "INSERT" ∷ codes "b_2" ∷ codes "004" ∷ codes "-999999" ∷ codes "-0" ∷ [])
+    (Ok (Insert (codes "b_2") 4 (negsuc 999998) (pos 0)))
 insert_words = ((refl, (refl, (refl, (refl, (refl, tt))))), (refl, lit< tt, refl, refl))
 
-move_words : IsReading (codes "MOVE" ∷ codes "b" ∷ codes "4294967295" ∷ codes "999999" ∷ codes "0" ∷ []) (Ok (Move (codes "b") 4294967295 (pos 999999) (pos 0)))
+move_words : IsReading (codes "MOVE" ∷ codes "b" ∷ codes "4294967295" ∷ codes "999999" ∷ codes "0" ∷ [])
+    (Ok (Move (codes "b") 4294967295 (pos 999999) (pos 0)))
 move_words = ((refl, (refl, (refl, (refl, (refl, tt))))), (refl, lit< tt, refl, refl))
 
 remove_words : IsReading (codes "REMOVE" ∷ codes "b" ∷ codes "0" ∷ []) (Ok (Remove (codes "b") 0))
@@ -47,18 +49,39 @@ drop_words : IsReading (codes "DROP" ∷ codes "b" ∷ []) (Ok (RemoveContour (c
 drop_words = ((refl, (refl, tt)), refl)
 
 -- two points, and no point, are also an edit, which is refused for its points later
-add_words : IsReading (codes "ADD" ∷ codes "-7" ∷ codes "d" ∷ codes "2" ∷ codes "0" ∷ codes "0" ∷ codes "5" ∷ codes "0" ∷ []) (Ok (AddContour (negsuc 6) (codes "d") ends)) × IsReading (codes "ADD" ∷ codes "-7" ∷ codes "d" ∷ codes "0" ∷ []) (Ok (AddContour (negsuc 6) (codes "d") []))
-add_words = (((refl, (refl, (refl, (refl, (refl, (refl, (refl, (refl, tt)))))))), (refl, refl, lit< tt, ((refl, refl), ((refl, refl), tt)))), ((refl, (refl, (refl, (refl, tt)))), (refl, refl, lit< tt, tt)))
+add_words : IsReading (codes "ADD" ∷ codes "-7" ∷ codes "d" ∷ codes "2" ∷ codes "0" ∷ codes "0" ∷ codes "5" ∷ codes "0"
+    ∷ []) (Ok (AddContour (negsuc 6) (codes "d") ends))
+    × IsReading (codes "ADD" ∷ codes "-7" ∷ codes "d" ∷ codes "0" ∷ []) (Ok (AddContour (negsuc 6) (codes "d") []))
+add_words = (
+  (
+    (refl, (refl, (refl, (refl, (refl, (refl, (refl, (refl, tt)))))))),
+    (refl, refl, lit< tt, ((refl, refl), ((refl, refl), tt))),
+  ),
+  ((refl, (refl, (refl, (refl, tt)))), (refl, refl, lit< tt, tt)),
+)
 
 -- another index, another keyword
-no_reading : (IsReading (codes "REMOVE" ∷ codes "b" ∷ codes "0" ∷ []) (Ok (Remove (codes "b") 1)) → ⊥) × (IsReading (codes "REMOVE" ∷ codes "b" ∷ codes "0" ∷ []) (Ok (RemoveContour (codes "b"))) → ⊥) × (IsReading (codes "REMOVE" ∷ codes "b" ∷ codes "0" ∷ []) (Err (NoVertex (codes "b") 0)) → ⊥) × (IsReading (codes "REMOVE" ∷ codes "b" ∷ codes "0" ∷ []) (Err EditForm) → ⊥) × IsReading [] (Err NoMemory)
-no_reading = ((λ h. another_index h.0.1.1.0), (λ h. h.0.1.1), (λ h. h), (λ h. h (Remove (codes "b") 0) remove_words), tt)
+no_reading : (IsReading (codes "REMOVE" ∷ codes "b" ∷ codes "0" ∷ []) (Ok (Remove (codes "b") 1)) → ⊥)
+    × (IsReading (codes "REMOVE" ∷ codes "b" ∷ codes "0" ∷ []) (Ok (RemoveContour (codes "b"))) → ⊥)
+    × (IsReading (codes "REMOVE" ∷ codes "b" ∷ codes "0" ∷ []) (Err (NoVertex (codes "b") 0)) → ⊥)
+    × (IsReading (codes "REMOVE" ∷ codes "b" ∷ codes "0" ∷ []) (Err EditForm) → ⊥) × IsReading [] (Err NoMemory)
+no_reading = (
+  (λ h. another_index h.0.1.1.0),
+  (λ h. h.0.1.1),
+  (λ h. h),
+  (λ h. h (Remove (codes "b") 0) remove_words),
+  tt,
+)
   where
     another_index : Some (pos 0) ≡ Some (pos 1) → ⊥
     another_index e = absurd (cc)
 
 -- no word, a word too few, a word too many, and a word that is not a number, name or index
-none_written : IsNoEdit [] × IsNoEdit (codes "MOVE" ∷ codes "b" ∷ codes "2" ∷ codes "1" ∷ []) × IsNoEdit (codes "DROP" ∷ codes "b" ∷ codes "c" ∷ []) × IsNoEdit (codes "DROP" ∷ codes "b+c" ∷ []) × IsNoEdit (codes "INSERT" ∷ codes "b" ∷ codes "+2" ∷ codes "1" ∷ codes "1" ∷ []) × IsNoEdit (codes "REMOVE" ∷ codes "b" ∷ codes "-1" ∷ []) × IsNoEdit (codes "REMOVE" ∷ codes "b" ∷ codes "4294967296" ∷ []) × IsNoEdit (codes "drop" ∷ codes "b" ∷ [])
+none_written : IsNoEdit [] × IsNoEdit (codes "MOVE" ∷ codes "b" ∷ codes "2" ∷ codes "1" ∷ [])
+    × IsNoEdit (codes "DROP" ∷ codes "b" ∷ codes "c" ∷ []) × IsNoEdit (codes "DROP" ∷ codes "b+c" ∷ [])
+    × IsNoEdit (codes "INSERT" ∷ codes "b" ∷ codes "+2" ∷ codes "1" ∷ codes "1" ∷ [])
+    × IsNoEdit (codes "REMOVE" ∷ codes "b" ∷ codes "-1" ∷ [])
+    × IsNoEdit (codes "REMOVE" ∷ codes "b" ∷ codes "4294967296" ∷ []) × IsNoEdit (codes "drop" ∷ codes "b" ∷ [])
 none_written = (
   nothing,
   move_only (codes "b" ∷ codes "2" ∷ codes "1" ∷ []) (λ name i x y m n k p q. m.1.1.1),
@@ -86,21 +109,31 @@ none_written = (
     beyond i e l = let s : pos 4294967296 ≡ pos i = some_is _ _ e in omega (arith, ints, s, l)
 
 -- a count that is not that of the points
-miscounted : IsNoEdit (codes "ADD" ∷ codes "4" ∷ codes "d" ∷ codes "3" ∷ codes "0" ∷ codes "0" ∷ codes "5" ∷ codes "0" ∷ [])
+miscounted : IsNoEdit (codes "ADD" ∷ codes "4" ∷ codes "d" ∷ codes "3" ∷ codes "0" ∷ codes "0" ∷ codes "5" ∷ codes "0"
+    ∷ [])
 miscounted = add_only (codes "4" ∷ codes "d" ∷ codes "3" ∷ codes "0" ∷ codes "0" ∷ codes "5" ∷ codes "0" ∷ []) by_points
   where
     not_two : Some (pos 3) ≡ Some (pos 2) → ⊥
     not_two e = absurd (cc)
 
-    by_points : (z : ℤ) (name : List ℕ) (ps : List Place) → Matches (codes "4" ∷ codes "d" ∷ codes "3" ∷ codes "0" ∷ codes "0" ∷ codes "5" ∷ codes "0" ∷ []) (number z ∷ text name ∷ number (pos (length ps)) ∷ flat_map spot_words ps) → InRange z → IsName name → IsIndex (length ps) → AllByRecursion IsSpotInRange ps → ⊥
+    by_points : (z : ℤ) (name : List ℕ) (ps : List Place)
+        → Matches (codes "4" ∷ codes "d" ∷ codes "3" ∷ codes "0" ∷ codes "0" ∷ codes "5" ∷ codes "0" ∷ [])
+        (number z ∷ text name ∷ number (pos (length ps)) ∷ flat_map spot_words ps) → InRange z → IsName name
+        → IsIndex (length ps) → AllByRecursion IsSpotInRange ps → ⊥
     by_points z name [] m h n k a = m.1.1.1
     by_points z name (p ∷ []) m h n k a = m.1.1.1.1.1
     by_points z name (p ∷ q ∷ []) m h n k a = not_two m.1.1.0
     by_points z name (p ∷ q ∷ r ∷ ps) m h n k a = m.1.1.1.1.1.1.1
 
 -- the faults of a line that is not an edit
-line_faults : IsLineFault (codes "drop b") EditForm × IsLineFault (codes "DROP b") NoMemory × (IsLineFault (codes "DROP b") EditForm → ⊥) × (IsLineFault (codes "DROP b") (NoContour (codes "b")) → ⊥)
-line_faults = (none_of (codes "drop") (codes "b" ∷ []) refl refl refl refl refl, tt, (λ h. h (RemoveContour (codes "b")) drop_words), λ h. h)
+line_faults : IsLineFault (codes "drop b") EditForm × IsLineFault (codes "DROP b") NoMemory
+    × (IsLineFault (codes "DROP b") EditForm → ⊥) × (IsLineFault (codes "DROP b") (NoContour (codes "b")) → ⊥)
+line_faults = (
+  none_of (codes "drop") (codes "b" ∷ []) refl refl refl refl refl,
+  tt,
+  (λ h. h (RemoveContour (codes "b")) drop_words),
+  λ h. h,
+)
 
 -- ---- refusals
 
@@ -118,17 +151,37 @@ joins below above = record { below = below; above = above }
 
 -- a below b and c, each linked to it, and to d, which is none of them
 abbrev three : List LinkParts → Parts
-three links = record { cost = span; rule = Links; sections = section (pos 0) (triangle (codes "a") ∷ []) ∷ section (pos 5) (triangle (codes "b") ∷ triangle (codes "c") ∷ []) ∷ []; links = links }
+three links = record {
+  cost = span;
+  rule = Links;
+  sections =
+      section (pos 0) (triangle (codes "a") ∷ []) ∷ section (pos 5) (triangle (codes "b") ∷ triangle (codes "c") ∷ [])
+      ∷ [];
+  links = links;
+}
 
 abbrev links : List LinkParts
-links = joins (codes "a") (codes "b") ∷ joins (codes "a") (codes "c") ∷ joins (codes "b") (codes "d") ∷ joins (codes "bb") (codes "c") ∷ []
+links = joins (codes "a") (codes "b") ∷ joins (codes "a") (codes "c") ∷ joins (codes "b") (codes "d")
+    ∷ joins (codes "bb") (codes "c") ∷ []
 
 -- the contour that is removed takes each link to it along, below or above
-dropped : (without (codes "b") (three links) ≡ record { cost = span; rule = Links; sections = section (pos 0) (triangle (codes "a") ∷ []) ∷ section (pos 5) (triangle (codes "c") ∷ []) ∷ []; links = joins (codes "a") (codes "c") ∷ joins (codes "bb") (codes "c") ∷ [] }) × (changed (three links) (RemoveContour (codes "b")) ≡ without (codes "b") (three links)) × (without (codes "q") (three links) ≡ three links)
+dropped : (without (codes "b") (three links)
+    ≡ record {
+      cost = span;
+      rule = Links;
+      sections =
+          section (pos 0) (triangle (codes "a") ∷ []) ∷ section (pos 5) (triangle (codes "c") ∷ []) ∷ [];
+      links =
+          joins (codes "a") (codes "c") ∷ joins (codes "bb") (codes "c") ∷ [];
+    })
+    × (changed (three links) (RemoveContour (codes "b")) ≡ without (codes "b") (three links))
+    × (without (codes "q") (three links) ≡ three links)
 dropped = (refl, refl, refl)
 
 -- every other edit keeps the links
-kept_links : ((changed (three links) (Move (codes "b") 0 (pos 1) (pos 1))).links ≡ links) × ((changed (three links) (Remove (codes "b") 0)).links ≡ links) × ((changed (three links) (AddContour (pos 0) (codes "d") ends)).links ≡ links)
+kept_links : ((changed (three links) (Move (codes "b") 0 (pos 1) (pos 1))).links ≡ links)
+    × ((changed (three links) (Remove (codes "b") 0)).links ≡ links)
+    × ((changed (three links) (AddContour (pos 0) (codes "d") ends)).links ≡ links)
 kept_links = (refl, refl, refl)
 
 abbrev Refused : Edit → EditFault → Type 0
@@ -145,11 +198,38 @@ fine_move : Fine (Move (codes "c") 2 (pos 1) (pos 1))
 fine_move = (
   record {
     in_range = (omega arith, (omega arith, tt));
-    spots = ((omega arith, omega arith), ((omega arith, omega arith), ((omega arith, omega arith), ((omega arith, omega arith), ((omega arith, omega arith), ((omega arith, omega arith), ((omega arith, omega arith), ((omega arith, omega arith), ((omega arith, omega arith), tt)))))))));
+    spots = (
+      (omega arith, omega arith),
+      (
+        (omega arith, omega arith),
+        (
+          (omega arith, omega arith),
+          (
+            (omega arith, omega arith),
+            (
+              (omega arith, omega arith),
+              (
+                (omega arith, omega arith),
+                (
+                  (omega arith, omega arith),
+                  ((omega arith, omega arith), ((omega arith, omega arith), tt)),
+                ),
+              ),
+            ),
+          ),
+        ),
+      ),
+    );
     weighted = tt;
-    apart = (((λ e. other_name 97 98 (omega arith) e), ((λ e. other_name 97 99 (omega arith) e), tt)), (((λ e. other_name 98 99 (omega arith) e), tt), (tt, tt)));
+    apart = (
+      ((λ e. other_name 97 98 (omega arith) e), ((λ e. other_name 97 99 (omega arith) e), tt)),
+      (((λ e. other_name 98 99 (omega arith) e), tt), (tt, tt)),
+    );
     rising = (omega (arith, ints), tt);
-    counted = ((omega (arith, ints), omega (arith, ints)), ((omega (arith, ints), omega (arith, ints)), ((omega (arith, ints), omega (arith, ints)), tt)));
+    counted = (
+      (omega (arith, ints), omega (arith, ints)),
+      ((omega (arith, ints), omega (arith, ints)), ((omega (arith, ints), omega (arith, ints)), tt)),
+    );
     small = (omega arith, (omega arith, tt));
     few_vertices = omega arith;
     few_contours = omega arith;
@@ -163,11 +243,38 @@ fine_insert : Fine (Insert (codes "c") 3 (pos 0) (pos 0))
 fine_insert = (
   record {
     in_range = (omega arith, (omega arith, tt));
-    spots = ((omega arith, omega arith), ((omega arith, omega arith), ((omega arith, omega arith), ((omega arith, omega arith), ((omega arith, omega arith), ((omega arith, omega arith), ((omega arith, omega arith), ((omega arith, omega arith), ((omega arith, omega arith), ((omega arith, omega arith), tt))))))))));
+    spots = (
+      (omega arith, omega arith),
+      (
+        (omega arith, omega arith),
+        (
+          (omega arith, omega arith),
+          (
+            (omega arith, omega arith),
+            (
+              (omega arith, omega arith),
+              (
+                (omega arith, omega arith),
+                (
+                  (omega arith, omega arith),
+                  ((omega arith, omega arith), ((omega arith, omega arith), ((omega arith, omega arith), tt))),
+                ),
+              ),
+            ),
+          ),
+        ),
+      ),
+    );
     weighted = tt;
-    apart = (((λ e. other_name 97 98 (omega arith) e), ((λ e. other_name 97 99 (omega arith) e), tt)), (((λ e. other_name 98 99 (omega arith) e), tt), (tt, tt)));
+    apart = (
+      ((λ e. other_name 97 98 (omega arith) e), ((λ e. other_name 97 99 (omega arith) e), tt)),
+      (((λ e. other_name 98 99 (omega arith) e), tt), (tt, tt)),
+    );
     rising = (omega (arith, ints), tt);
-    counted = ((omega (arith, ints), omega (arith, ints)), ((omega (arith, ints), omega (arith, ints)), ((omega (arith, ints), omega (arith, ints)), tt)));
+    counted = (
+      (omega (arith, ints), omega (arith, ints)),
+      ((omega (arith, ints), omega (arith, ints)), ((omega (arith, ints), omega (arith, ints)), tt)),
+    );
     small = (omega arith, (omega arith, tt));
     few_vertices = omega arith;
     few_contours = omega arith;
@@ -181,7 +288,16 @@ fine_drop : Fine (RemoveContour (codes "a"))
 fine_drop = (
   record {
     in_range = (omega arith, (omega arith, tt));
-    spots = ((omega arith, omega arith), ((omega arith, omega arith), ((omega arith, omega arith), ((omega arith, omega arith), ((omega arith, omega arith), ((omega arith, omega arith), tt))))));
+    spots = (
+      (omega arith, omega arith),
+      (
+        (omega arith, omega arith),
+        (
+          (omega arith, omega arith),
+          ((omega arith, omega arith), ((omega arith, omega arith), ((omega arith, omega arith), tt))),
+        ),
+      ),
+    );
     weighted = tt;
     apart = (((λ e. other_name 98 99 (omega arith) e), tt), (tt, tt));
     rising = (omega (arith, ints), tt);
@@ -196,13 +312,21 @@ fine_drop = (
 )
 
 -- coordinates, then the contour, then the vertex, then too few vertices
-refused_moves : Refused (Move (codes "q") 9 (pos 0) (pos 1000000)) EditForm × Refused (Move (codes "q") 9 (negsuc 999999) (pos 0)) EditForm × Refused (Move (codes "q") 9 (negsuc 999998) (pos 999999)) (NoContour (codes "q")) × Refused (Move (codes "c") 3 (pos 1) (pos 1)) (NoVertex (codes "c") 3) × Fine (Move (codes "c") 2 (pos 1) (pos 1))
+refused_moves : Refused (Move (codes "q") 9 (pos 0) (pos 1000000)) EditForm
+    × Refused (Move (codes "q") 9 (negsuc 999999) (pos 0)) EditForm
+    × Refused (Move (codes "q") 9 (negsuc 999998) (pos 999999)) (NoContour (codes "q"))
+    × Refused (Move (codes "c") 3 (pos 1) (pos 1)) (NoVertex (codes "c") 3) × Fine (Move (codes "c") 2 (pos 1) (pos 1))
 refused_moves = (refl, refl, refl, refl, fine_move)
 
-refused_inserts : Refused (Insert (codes "q") 9 (pos 1000000) (pos 0)) EditForm × Refused (Insert (codes "q") 9 (pos 0) (pos 0)) (NoContour (codes "q")) × Refused (Insert (codes "c") 4 (pos 0) (pos 0)) (NoVertex (codes "c") 4) × Fine (Insert (codes "c") 3 (pos 0) (pos 0))
+refused_inserts : Refused (Insert (codes "q") 9 (pos 1000000) (pos 0)) EditForm
+    × Refused (Insert (codes "q") 9 (pos 0) (pos 0)) (NoContour (codes "q"))
+    × Refused (Insert (codes "c") 4 (pos 0) (pos 0)) (NoVertex (codes "c") 4)
+    × Fine (Insert (codes "c") 3 (pos 0) (pos 0))
 refused_inserts = (refl, refl, refl, fine_insert)
 
-refused_removals : Refused (Remove (codes "q") 9) (NoContour (codes "q")) × Refused (Remove (codes "c") 3) (NoVertex (codes "c") 3) × Refused (Remove (codes "c") 2) (TooFew (codes "c")) × Refused (RemoveContour (codes "q")) (NoContour (codes "q")) × Fine (RemoveContour (codes "a"))
+refused_removals : Refused (Remove (codes "q") 9) (NoContour (codes "q"))
+    × Refused (Remove (codes "c") 3) (NoVertex (codes "c") 3) × Refused (Remove (codes "c") 2) (TooFew (codes "c"))
+    × Refused (RemoveContour (codes "q")) (NoContour (codes "q")) × Fine (RemoveContour (codes "a"))
 refused_removals = (refl, refl, refl, refl, fine_drop)
 
 -- for a new contour, first its points, then the section, then too few points, then the name
@@ -213,11 +337,53 @@ fine_add : Fine (AddContour (pos 0) (codes "d") corners)
 fine_add = (
   record {
     in_range = (omega arith, (omega arith, tt));
-    spots = ((omega arith, omega arith), ((omega arith, omega arith), ((omega arith, omega arith), ((omega arith, omega arith), ((omega arith, omega arith), ((omega arith, omega arith), ((omega arith, omega arith), ((omega arith, omega arith), ((omega arith, omega arith), ((omega arith, omega arith), ((omega arith, omega arith), ((omega arith, omega arith), tt))))))))))));
+    spots = (
+      (omega arith, omega arith),
+      (
+        (omega arith, omega arith),
+        (
+          (omega arith, omega arith),
+          (
+            (omega arith, omega arith),
+            (
+              (omega arith, omega arith),
+              (
+                (omega arith, omega arith),
+                (
+                  (omega arith, omega arith),
+                  (
+                    (omega arith, omega arith),
+                    (
+                      (omega arith, omega arith),
+                      ((omega arith, omega arith), ((omega arith, omega arith), ((omega arith, omega arith), tt))),
+                    ),
+                  ),
+                ),
+              ),
+            ),
+          ),
+        ),
+      ),
+    );
     weighted = tt;
-    apart = (((λ e. other_name 97 100 (omega arith) e), ((λ e. other_name 97 98 (omega arith) e), ((λ e. other_name 97 99 (omega arith) e), tt))), (((λ e. other_name 98 100 (omega arith) (sym e)), ((λ e. other_name 99 100 (omega arith) (sym e)), tt)), (((λ e. other_name 98 99 (omega arith) e), tt), (tt, tt))));
+    apart = (
+      (
+        (λ e. other_name 97 100 (omega arith) e),
+        ((λ e. other_name 97 98 (omega arith) e), ((λ e. other_name 97 99 (omega arith) e), tt)),
+      ),
+      (
+        ((λ e. other_name 98 100 (omega arith) (sym e)), ((λ e. other_name 99 100 (omega arith) (sym e)), tt)),
+        (((λ e. other_name 98 99 (omega arith) e), tt), (tt, tt)),
+      ),
+    );
     rising = (omega (arith, ints), tt);
-    counted = ((omega (arith, ints), omega (arith, ints)), ((omega (arith, ints), omega (arith, ints)), ((omega (arith, ints), omega (arith, ints)), ((omega (arith, ints), omega (arith, ints)), tt))));
+    counted = (
+      (omega (arith, ints), omega (arith, ints)),
+      (
+        (omega (arith, ints), omega (arith, ints)),
+        ((omega (arith, ints), omega (arith, ints)), ((omega (arith, ints), omega (arith, ints)), tt)),
+      ),
+    );
     small = (omega arith, (omega arith, tt));
     few_vertices = omega arith;
     few_contours = omega arith;
@@ -227,7 +393,11 @@ fine_add = (
   omega arith,
 )
 
-refused_additions : Refused (AddContour (pos 3) (codes "a") (place 0 1000000 ∷ [])) EditForm × Refused (AddContour (pos 3) (codes "a") ends) (NoSection (pos 3)) × Refused (AddContour (pos 0) (codes "a") ends) (TooFew (codes "a")) × Refused (AddContour (pos 0) (codes "c") corners) (NameTwice (codes "c")) × Fine (AddContour (pos 0) (codes "d") corners)
+refused_additions : Refused (AddContour (pos 3) (codes "a") (place 0 1000000 ∷ [])) EditForm
+    × Refused (AddContour (pos 3) (codes "a") ends) (NoSection (pos 3))
+    × Refused (AddContour (pos 0) (codes "a") ends) (TooFew (codes "a"))
+    × Refused (AddContour (pos 0) (codes "c") corners) (NameTwice (codes "c"))
+    × Fine (AddContour (pos 0) (codes "d") corners)
 refused_additions = (refl, refl, refl, refl, fine_add)
 
 -- ---- the limits on the edited parts: at each and one past it, and no contour
@@ -245,13 +415,17 @@ counted_once = section (pos 0) (counting 1 ∷ [])
 abbrev filled : ℕ → SectionParts
 filled n = section (pos 0) (counting n ∷ replicate 4 (counting 4090))
 
-late_contour : (late (section (pos 0) [] ∷ section (pos 1) (counting 4096 ∷ []) ∷ []) ≡ None) × (late (section (pos 0) [] ∷ section (pos 1) (counting 4097 ∷ []) ∷ []) ≡ Some (Limit ContourVertices))
+late_contour : (late (section (pos 0) [] ∷ section (pos 1) (counting 4096 ∷ []) ∷ []) ≡ None)
+    × (late (section (pos 0) [] ∷ section (pos 1) (counting 4097 ∷ []) ∷ []) ≡ Some (Limit ContourVertices))
 late_contour = (refl, refl)
 
-late_section : (late (filled 24 ∷ []) ≡ None) × (late (counted_once ∷ filled 25 ∷ []) ≡ Some (Limit SectionVertices)) × (late (filled 4097 ∷ []) ≡ Some (Limit ContourVertices))
+late_section : (late (filled 24 ∷ []) ≡ None) × (late (counted_once ∷ filled 25 ∷ []) ≡ Some (Limit SectionVertices))
+    × (late (filled 4097 ∷ []) ≡ Some (Limit ContourVertices))
 late_section = (refl, refl, refl)
 
-late_vertices : (late (replicate 128 (filled 24)) ≡ None) × (late (counted_once ∷ replicate 128 (filled 24)) ≡ Some (Limit Vertices)) × (late (filled 25 ∷ replicate 128 (filled 24)) ≡ Some (Limit SectionVertices))
+late_vertices : (late (replicate 128 (filled 24)) ≡ None)
+    × (late (counted_once ∷ replicate 128 (filled 24)) ≡ Some (Limit Vertices))
+    × (late (filled 25 ∷ replicate 128 (filled 24)) ≡ Some (Limit SectionVertices))
 late_vertices = (refl, refl, refl)
 
 -- 65,536 contours and one more
@@ -261,17 +435,27 @@ crowded = replicate 4 (section (pos 0) (replicate 16384 (counting 1)))
 late_contours : (late crowded ≡ None) × (late (counted_once ∷ crowded) ≡ Some (Limit Contours))
 late_contours = (refl, refl)
 
-late_nothing : (late [] ≡ Some (Found NoContours)) × (late (section (pos 0) [] ∷ section (pos 1) [] ∷ []) ≡ Some (Found NoContours))
+late_nothing : (late [] ≡ Some (Found NoContours))
+    × (late (section (pos 0) [] ∷ section (pos 1) [] ∷ []) ≡ Some (Found NoContours))
 late_nothing = (refl, refl)
 
 -- the same in the words of laws, for parts that keep the laws before them
 abbrev one_contour : ℕ → Parts
 one_contour n = record (three []) { sections = section (pos 0) (counting n ∷ []) ∷ [] }
 
-past : IsLateRefusal (one_contour 4097) (Some (Limit ContourVertices)) × (IsLateRefusal (one_contour 4096) (Some (Limit ContourVertices)) → ⊥) × (IsLateRefusal (one_contour 4097) None → ⊥)
+past : IsLateRefusal (one_contour 4097) (Some (Limit ContourVertices))
+    × (IsLateRefusal (one_contour 4096) (Some (Limit ContourVertices)) → ⊥)
+    × (IsLateRefusal (one_contour 4097) None → ⊥)
 past = (
-  (3, refl, ((((omega arith, tt), tt), tt, tt), (((tt, tt), tt), ((tt, tt), tt))), λ h. let l : pos 4097 ≤ℤ pos 4096 = h.0.1 in omega (arith, ints)),
-  (λ h. breaks_none (within ContourVertices) (facts (as_file (one_contour 4096))) (lawful-to (one_contour 4096) lawful_full) h),
+  (
+    3,
+    refl,
+    ((((omega arith, tt), tt), tt, tt), (((tt, tt), tt), ((tt, tt), tt))),
+    λ h. let l : pos 4097 ≤ℤ pos 4096 =
+        h.0.1 in omega (arith, ints),
+  ),
+  (λ h. breaks_none (within ContourVertices) (facts (as_file (one_contour 4096)))
+      (lawful-to (one_contour 4096) lawful_full) h),
   λ h. let l : pos 4097 ≤ℤ pos 4096 = h.0.counted.0.1 in omega (arith, ints),
 )
   where
@@ -291,7 +475,8 @@ past = (
     }
 
 -- the edit's own refusal comes before that of the edited parts
-own_first : IsRefusal (one_contour 4097) (RemoveContour (codes "q")) (Some (NoContour (codes "q"))) × IsRefusal (one_contour 4097) (RemoveContour (codes "a")) (Some (Found NoContours))
+own_first : IsRefusal (one_contour 4097) (RemoveContour (codes "q")) (Some (NoContour (codes "q")))
+    × IsRefusal (one_contour 4097) (RemoveContour (codes "a")) (Some (Found NoContours))
 own_first = (
   refl,
   (
@@ -316,5 +501,20 @@ own_first = (
 abbrev Is : Option EditFault → Option EditFault → Type 0
 Is o p = p ≡ o
 
-answers : AnswersOrRefuses {T = ℕ} (Is None) (Ok 7) (λ n. n ≡ 7) × (AnswersOrRefuses {T = ℕ} (Is None) (Ok 8) (λ n. n ≡ 7) → ⊥) × (AnswersOrRefuses {T = ℕ} (Is (Some EditForm)) (Ok 7) (λ n. n ≡ 7) → ⊥) × AnswersOrRefuses {T = ℕ} (Is None) (Err NoMemory) (λ n. n ≡ 7) × (AnswersOrRefuses {T = ℕ} (Is None) (Err EditForm) (λ n. n ≡ 7) → ⊥) × AnswersOrRefuses {T = ℕ} (Is (Some EditForm)) (Err EditForm) (λ n. n ≡ 7) × (AnswersOrRefuses {T = ℕ} (Is (Some EditForm)) (Err (Found EndMissing)) (λ n. n ≡ 7) → ⊥)
-answers = ((refl, refl), (λ h. omega (arith, h.1)), (λ h. let e : None ≡ Some EditForm = h.0 in absurd (cc)), tt, (λ h. let e : Some EditForm ≡ None = h in absurd (cc)), refl, λ h. let e : Some (Found EndMissing) ≡ Some EditForm = h in absurd (cc))
+answers : AnswersOrRefuses {T = ℕ} (Is None) (Ok 7) (λ n. n ≡ 7)
+    × (AnswersOrRefuses {T = ℕ} (Is None) (Ok 8) (λ n. n ≡ 7) → ⊥)
+    × (AnswersOrRefuses {T = ℕ} (Is (Some EditForm)) (Ok 7) (λ n. n ≡ 7) → ⊥)
+    × AnswersOrRefuses {T = ℕ} (Is None) (Err NoMemory) (λ n. n ≡ 7)
+    × (AnswersOrRefuses {T = ℕ} (Is None) (Err EditForm) (λ n. n ≡ 7) → ⊥)
+    × AnswersOrRefuses {T = ℕ} (Is (Some EditForm)) (Err EditForm) (λ n. n ≡ 7)
+    × (AnswersOrRefuses {T = ℕ} (Is (Some EditForm)) (Err (Found EndMissing)) (λ n. n ≡ 7) → ⊥)
+answers = (
+  (refl, refl),
+  (λ h. omega (arith, h.1)),
+  (λ h. let e : None ≡ Some EditForm = h.0 in absurd (cc)),
+  tt,
+  (λ h. let e : Some EditForm ≡ None = h in absurd (cc)),
+  refl,
+  λ h. let e : Some (Found EndMissing) ≡ Some EditForm =
+      h in absurd (cc),
+)

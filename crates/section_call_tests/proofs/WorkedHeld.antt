@@ -23,7 +23,11 @@ at x y z = record { x = x; y = y; z = z }
 
 -- a triangle, a section without contours, one with a contour, and a link, wherever their lists lie
 abbrev pub triangle : Vec ℕ Global → List ℕ → ℤ → Contour
-triangle v name z = record { name = name; points = list_at v (at (pos 0) (pos 0) z ∷ at (pos 9) (negsuc 0) z ∷ at (pos 4) (pos 7) z ∷ []) tt }
+triangle v name z = record {
+  name = name;
+  points =
+      list_at v (at (pos 0) (pos 0) z ∷ at (pos 9) (negsuc 0) z ∷ at (pos 4) (pos 7) z ∷ []) tt;
+}
 
 abbrev pub empty : Vec ℕ Global → ℤ → Section
 empty v z = record { z = z; contours = list_at {X = Contour} v [] tt }
@@ -47,14 +51,28 @@ section_with z contours = record { z = z; contours = contours }
 abbrev pub linked : List ℕ → List ℕ → LinkParts
 linked below above = record { below = below; above = above }
 
-views : (v : Vec ℕ Global) → (spot_of (at (pos 3) (negsuc 4) (pos 7)) ≡ (pos 3, negsuc 4)) × (contour_parts (triangle v (codes "a") (pos 5)) ≡ triangle_parts (codes "a")) × (section_parts (holds v (pos 5) (triangle v (codes "a") (pos 5))) ≡ section_with (pos 5) (triangle_parts (codes "a") ∷ [])) × (section_parts (empty v (negsuc 2)) ≡ section_with (negsuc 2) []) × (link_parts (joins (codes "a") (codes "b")) ≡ linked (codes "a") (codes "b"))
+views : (v : Vec ℕ Global) → (spot_of (at (pos 3) (negsuc 4) (pos 7)) ≡ (pos 3, negsuc 4))
+    × (contour_parts (triangle v (codes "a") (pos 5)) ≡ triangle_parts (codes "a"))
+    × (section_parts (holds v (pos 5) (triangle v (codes "a") (pos 5)))
+    ≡ section_with (pos 5) (triangle_parts (codes "a") ∷ []))
+    × (section_parts (empty v (negsuc 2)) ≡ section_with (negsuc 2) [])
+    × (link_parts (joins (codes "a") (codes "b")) ≡ linked (codes "a") (codes "b"))
 views v = (refl, refl, refl, refl, refl)
 
 -- a cost rule as it is written, and back
 costs : (cost_parts (Mix 2 5) ≡ mix (pos 2) (pos 5)) × (cost_rule (mix (pos 2) (pos 5)) ≡ Mix 2 5)
 costs = (refl, refl)
 
-ended : (v : Vec ℕ Global) → ended_parts area Links (holds v (pos 5) (triangle v (codes "a") (pos 5)) ∷ empty v (pos 6) ∷ []) (joins (codes "a") (codes "b") ∷ []) ≡ record { cost = area; rule = Links; sections = section_with (pos 5) (triangle_parts (codes "a") ∷ []) ∷ section_with (pos 6) [] ∷ []; links = linked (codes "a") (codes "b") ∷ [] }
+ended : (v : Vec ℕ Global) → ended_parts area Links
+    (holds v (pos 5) (triangle v (codes "a") (pos 5)) ∷ empty v (pos 6) ∷ []) (joins (codes "a") (codes "b") ∷ [])
+    ≡ record {
+      cost = area;
+      rule = Links;
+      sections =
+          section_with (pos 5) (triangle_parts (codes "a") ∷ []) ∷ section_with (pos 6) [] ∷ [];
+      links =
+          linked (codes "a") (codes "b") ∷ [];
+    }
 ended v = refl
 
 -- each point at the height
@@ -68,14 +86,33 @@ all_flat : (v : Vec ℕ Global) → AreFlat (holds v (pos 5) (triangle v (codes 
 all_flat v = (((refl, (refl, (refl, tt))), tt), (tt, tt))
 
 -- a point at the height of its section is a whole piece, and one at another height is not
-points_pieces : (point_piece (pos 5) (at (pos 3) (negsuc 4) (pos 5)) ≡ whole (point (pos 3, negsuc 4))) × (point_piece (pos 5) (at (pos 3) (negsuc 4) (pos 6)) ≡ askew)
+points_pieces : (point_piece (pos 5) (at (pos 3) (negsuc 4) (pos 5)) ≡ whole (point (pos 3, negsuc 4)))
+    × (point_piece (pos 5) (at (pos 3) (negsuc 4) (pos 6)) ≡ askew)
 points_pieces = (refl, refl)
 
 -- the cost, then the sections, then the links, which come last under either rule
-all_pieces : (v : Vec ℕ Global) → pieces_of area (empty v (pos 4) ∷ holds v (pos 5) (triangle v (codes "a") (pos 5)) ∷ []) (joins (codes "a") (codes "b") ∷ []) ≡ whole (cost_is area) ∷ whole (section (pos 4)) ∷ whole (section (pos 5)) ∷ whole (contour (codes "a") (pos 3)) ∷ whole (point (pos 0, pos 0)) ∷ whole (point (pos 9, negsuc 0)) ∷ whole (point (pos 4, pos 7)) ∷ whole (link (linked (codes "a") (codes "b"))) ∷ []
+all_pieces : (v : Vec ℕ Global) → pieces_of area
+    (empty v (pos 4) ∷ holds v (pos 5) (triangle v (codes "a") (pos 5)) ∷ []) (joins (codes "a") (codes "b") ∷ [])
+    ≡ whole (cost_is area) ∷ whole (section (pos 4)) ∷ whole (section (pos 5)) ∷ whole (contour (codes "a") (pos 3))
+    ∷ whole (point (pos 0, pos 0)) ∷ whole (point (pos 9, negsuc 0)) ∷ whole (point (pos 4, pos 7))
+    ∷ whole (link (linked (codes "a") (codes "b"))) ∷ []
 all_pieces v = refl
 
 -- what items add to the facts: weights, heights, names, counts, points, vertices of each section, and links
-facts_of_items : facts_after nothing (cost_is (mix (pos 2) (pos 5)) ∷ section (pos 4) ∷ section (pos 5) ∷ contour (codes "a") (pos 3) ∷ point (pos 0, pos 0) ∷ point (pos 9, negsuc 0) ∷ contour (codes "b") (pos 4) ∷ link (linked (codes "a") (codes "b")) ∷ [])
-    ≡ record { objects = []; heights = (pos 4 ∷ pos 5 ∷ []) ∷ []; names = codes "a" ∷ codes "b" ∷ []; counts = pos 3 ∷ pos 4 ∷ []; points = (pos 0, pos 0) ∷ (pos 9, negsuc 0) ∷ []; weights = (pos 2, pos 5) ∷ []; sums = 0 ∷ 7 ∷ []; links = 1 }
+facts_of_items : facts_after nothing
+    (cost_is (mix (pos 2) (pos 5)) ∷ section (pos 4) ∷ section (pos 5) ∷ contour (codes "a") (pos 3)
+    ∷ point (pos 0, pos 0) ∷ point (pos 9, negsuc 0) ∷ contour (codes "b") (pos 4)
+    ∷ link (linked (codes "a") (codes "b")) ∷ [])
+    ≡ record {
+      objects = [];
+      heights = (pos 4 ∷ pos 5 ∷ []) ∷ [];
+      names = codes "a" ∷ codes "b" ∷ [];
+      counts =
+          pos 3 ∷ pos 4 ∷ [];
+      points = (pos 0, pos 0) ∷ (pos 9, negsuc 0) ∷ [];
+      weights = (pos 2, pos 5) ∷ [];
+      sums =
+          0 ∷ 7 ∷ [];
+      links = 1;
+    }
 facts_of_items = refl

@@ -66,20 +66,45 @@ above = (pos 5, (codes "b", triangle_from 0 5) ∷ (codes "c", triangle_from 4 5
 
 all_simple : All IsSimpleContour (data_contours (below ∷ above ∷ []))
 all_simple =
-    All-cons IsSimpleContour (codes "a", triangle_from 0 0) ((codes "b", triangle_from 0 5) ∷ (codes "c", triangle_from 4 5) ∷ []) (simple _ _ _ refl refl refl)
-    (All-cons IsSimpleContour (codes "b", triangle_from 0 5) ((codes "c", triangle_from 4 5) ∷ []) (simple _ _ _ refl refl refl)
-    (All-cons IsSimpleContour (codes "c", triangle_from 4 5) [] (simple _ _ _ refl refl refl) (All-nil IsSimpleContour)))
+    All-cons IsSimpleContour (codes "a", triangle_from 0 0)
+    ((codes "b", triangle_from 0 5) ∷ (codes "c", triangle_from 4 5) ∷ []) (simple _ _ _ refl refl refl)
+    (All-cons IsSimpleContour (codes "b", triangle_from 0 5) ((codes "c", triangle_from 4 5) ∷ [])
+    (simple _ _ _ refl refl refl)
+    (All-cons IsSimpleContour (codes "c", triangle_from 4 5) [] (simple _ _ _ refl refl refl)
+    (All-nil IsSimpleContour)))
 
 touching : Touch (triangle_from 0 5) (triangle_from 4 5)
 unfolding around
-touching = record { e = 0; within = omega arith; edge = record { f = 0; within = omega arith; meet = record { s = 1; t = 0; e = 1; at = record { positive = omega arith; on_first = omega arith; on_second = omega arith; x = refl; y = refl } } } }
+touching = record {
+  e = 0;
+  within = omega arith;
+  edge =
+      record {
+        f = 0;
+        within = omega arith;
+        meet =
+            record {
+              s = 1;
+              t = 0;
+              e = 1;
+              at =
+                  record { positive = omega arith; on_first = omega arith; on_second = omega arith; x = refl; y = refl };
+            };
+      };
+}
 
 -- the section and the two contours that the fault names
 crossing : HasCrossing above (Crossing (codes "b") (codes "c"))
 crossing = record {
   i = 0;
   j = 1;
-  pair = record { ordered = omega arith; within = omega arith; related = touching; first = λ g h o w b t. elim b [ inl l ↦ omega (arith, l) | inr s ↦ omega (arith, o, s.0, s.1) ] };
+  pair = record {
+    ordered = omega arith;
+    within = omega arith;
+    related = touching;
+    first =
+        λ g h o w b t. elim b [ inl l ↦ omega (arith, l) | inr s ↦ omega (arith, o, s.0, s.1) ];
+  };
   first = refl;
   second = refl;
 }
@@ -106,16 +131,33 @@ abbrev contour : List ℕ → List Spot → ContourParts
 contour name points = record { name = name; count = pos (length points); points = points }
 
 abbrev pub crossed : Parts
-crossed = record { cost = span; rule = Overlap; sections = record { z = pos 0; contours = contour (codes "a") (spots 0) ∷ [] } ∷ record { z = pos 5; contours = contour (codes "b") (spots 0) ∷ contour (codes "c") (spots 4) ∷ [] } ∷ []; links = [] }
+crossed = record {
+  cost = span;
+  rule = Overlap;
+  sections =
+      record { z = pos 0; contours = contour (codes "a") (spots 0) ∷ [] }
+      ∷ record { z = pos 5; contours = contour (codes "b") (spots 0) ∷ contour (codes "c") (spots 4) ∷ [] } ∷ [];
+  links =
+      [];
+}
 
-pub crossed_found : IsContourFault (map section_of crossed.sections) (Crossing (codes "b") (codes "c")) × IsFound crossed (Crossing (codes "b") (codes "c"))
+pub crossed_found : IsContourFault (map section_of crossed.sections) (Crossing (codes "b") (codes "c"))
+    × IsFound crossed (Crossing (codes "b") (codes "c"))
 crossed_found = (inr later, IsFound.in_contours (Crossing (codes "b") (codes "c")) (inr later))
 
 -- ---- a composite that is too long
 
 -- one contour under another one that is linked to it, each of so many points
 abbrev long : ℕ × ℕ → Parts
-long n = record { cost = span; rule = Links; sections = record { z = pos 0; contours = contour (codes "a") (replicate n.0 (pos 1, pos 1)) ∷ [] } ∷ record { z = pos 5; contours = contour (codes "b") (replicate n.1 (pos 1, pos 1)) ∷ [] } ∷ []; links = record { below = codes "a"; above = codes "b" } ∷ [] }
+long n = record {
+  cost = span;
+  rule = Links;
+  sections =
+      record { z = pos 0; contours = contour (codes "a") (replicate n.0 (pos 1, pos 1)) ∷ [] }
+      ∷ record { z = pos 5; contours = contour (codes "b") (replicate n.1 (pos 1, pos 1)) ∷ [] } ∷ [];
+  links =
+      record { below = codes "a"; above = codes "b" } ∷ [];
+}
 
 joined : (n : ℕ × ℕ) → Correspond (long n) 0 0 0
 joined n = record { below = omega arith; above = omega arith; agree = refl }
@@ -126,4 +168,17 @@ gaps n = one_gap (long n) refl refl refl (joined n)
 -- the lower composite of section 1
 too_long : IsSideFault (long (4097, 3)) (Composite 1 4097)
 unfolding oriented ring_from depth is_inside least_bridge distance_square square
-too_long = record { gaps = straight; are_gaps = gaps (4097, 3); first = record { before = []; item = (1, 4097); after = (2, 3) ∷ []; split = refl; good_before = All-nil IsShort; has = (refl, refl, omega arith) } }
+too_long = record {
+  gaps = straight;
+  are_gaps = gaps (4097, 3);
+  first =
+      record {
+        before = [];
+        item = (1, 4097);
+        after = (2, 3) ∷ [];
+        split = refl;
+        good_before = All-nil IsShort;
+        has =
+            (refl, refl, omega arith);
+      };
+}

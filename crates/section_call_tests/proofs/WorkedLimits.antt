@@ -46,7 +46,9 @@ weights = (refl, (omega arith, omega arith, omega arith))
 written_weights : AreWeights (pos 1000) (pos 0) × IsMix (pos 0, pos 1000)
 written_weights = ((omega arith, omega arith, omega arith), (omega arith, omega arith, omega arith))
 
-tested_weights : (is_weight (pos 1000) ≡ true) × (is_weight (pos 1001) ≡ false) × (are_weights (pos 1000) (pos 0) ≡ true) × (are_weights (pos 0) (pos 0) ≡ false) × (is_weighted span ≡ true) × (is_weighted (mix (pos 0) (pos 0)) ≡ false)
+tested_weights : (is_weight (pos 1000) ≡ true) × (is_weight (pos 1001) ≡ false)
+    × (are_weights (pos 1000) (pos 0) ≡ true) × (are_weights (pos 0) (pos 0) ≡ false) × (is_weighted span ≡ true)
+    × (is_weighted (mix (pos 0) (pos 0)) ≡ false)
 tested_weights = (refl, refl, refl, refl, refl, refl)
 
 -- names that differ, and heights that rise
@@ -60,7 +62,9 @@ above : (is_above (pos 9 ∷ pos 2 ∷ []) (pos 3) ≡ true) × (is_above (pos 2
 above = (refl, refl)
 
 -- what the last of a list becomes
-lasts : (add_last (1 ∷ 2 ∷ 4 ∷ []) 3 ≡ 1 ∷ 2 ∷ 7 ∷ []) × (last (1 ∷ 2 ∷ 4 ∷ []) ≡ 4) × (push_last ((pos 1 ∷ []) ∷ [] ∷ []) (pos 3) ≡ (pos 1 ∷ []) ∷ (pos 3 ∷ []) ∷ []) × (last_list ((pos 1 ∷ []) ∷ (pos 2 ∷ pos 3 ∷ []) ∷ []) ≡ pos 2 ∷ pos 3 ∷ [])
+lasts : (add_last (1 ∷ 2 ∷ 4 ∷ []) 3 ≡ 1 ∷ 2 ∷ 7 ∷ []) × (last (1 ∷ 2 ∷ 4 ∷ []) ≡ 4)
+    × (push_last ((pos 1 ∷ []) ∷ [] ∷ []) (pos 3) ≡ (pos 1 ∷ []) ∷ (pos 3 ∷ []) ∷ [])
+    × (last_list ((pos 1 ∷ []) ∷ (pos 2 ∷ pos 3 ∷ []) ∷ []) ≡ pos 2 ∷ pos 3 ∷ [])
 lasts = (refl, refl, refl, refl)
 
 -- rings of contours and of pairs
@@ -68,7 +72,10 @@ abbrev corners : List Point
 corners = at (pos 0) (pos 0) (pos 7) ∷ at (pos 999999) (pos 0) (pos 7) ∷ at (pos 0) (negsuc 999998) (pos 7) ∷ []
 
 all_in_range : All IsInRange corners
-all_in_range = All-from_recursion IsInRange corners (near _ (omega arith) (omega arith) (omega arith), (near _ (omega arith) (omega arith) (omega arith), (near _ (omega arith) (omega arith) (omega arith), tt)))
+all_in_range = All-from_recursion IsInRange corners (
+  near _ (omega arith) (omega arith) (omega arith),
+  (near _ (omega arith) (omega arith) (omega arith), (near _ (omega arith) (omega arith) (omega arith), tt)),
+)
   where
     near : (p : Point) → IsCoordinate p.x → IsCoordinate p.y → IsCoordinate p.z → IsInRange p
     near p x y z = record { x = x; y = y; z = z }
@@ -76,8 +83,13 @@ all_in_range = All-from_recursion IsInRange corners (near _ (omega arith) (omega
 abbrev ring : Vec ℕ Global → Ring
 ring v = record { points = list_at v corners tt; ids = list_at v (4 ∷ 5 ∷ 6 ∷ []) tt; one_id_each = refl }
 
-contours : (v : Vec ℕ Global) → IsContour (ring v) × (ring_view (ring v) ≡ record { points = corners; ids = 4 ∷ 5 ∷ 6 ∷ [] }) × IsRing corners
-contours v = (record { enough = omega arith; few = omega arith; in_range = all_in_range }, refl, record { enough = omega arith; few = omega arith; in_range = all_in_range })
+contours : (v : Vec ℕ Global) → IsContour (ring v)
+    × (ring_view (ring v) ≡ record { points = corners; ids = 4 ∷ 5 ∷ 6 ∷ [] }) × IsRing corners
+contours v = (
+  record { enough = omega arith; few = omega arith; in_range = all_in_range },
+  refl,
+  record { enough = omega arith; few = omega arith; in_range = all_in_range },
+)
 
 views : (v : Vec ℕ Global) → ring_views (ring v ∷ ring v ∷ []) ≡ ring_view (ring v) ∷ ring_view (ring v) ∷ []
 views v = refl

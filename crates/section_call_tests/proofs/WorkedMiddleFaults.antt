@@ -47,20 +47,48 @@ parts sections links = record { cost = span; rule = Links; sections = sections; 
 -- ---- two squares, the lower one named m1
 
 abbrev named : Parts
-named = record { cost = span; rule = Overlap; sections = record { z = pos 0; contours = record { name = codes "m1"; count = pos 4; points = box 0 10 } ∷ [] } ∷ record { z = pos 10; contours = record { name = codes "b"; count = pos 4; points = box 0 10 } ∷ [] } ∷ []; links = [] }
+named = record {
+  cost = span;
+  rule = Overlap;
+  sections =
+      record { z = pos 0; contours = record { name = codes "m1"; count = pos 4; points = box 0 10 } ∷ [] }
+      ∷ record { z = pos 10; contours = record { name = codes "b"; count = pos 4; points = box 0 10 } ∷ [] } ∷ [];
+  links =
+      [];
+}
 
 abbrev square_at : ℕ → List Point
 square_at z = corner 0 0 z ∷ corner 10 0 z ∷ corner 10 10 z ∷ corner 0 10 z ∷ []
 
 named_sound : AreSound (map section_of named.sections)
-named_sound = two_sound (codes "m1") (codes "b") (pos 0) (pos 10) (square_at 0) (square_at 10) (sound.simple 0 ([], []) (omega arith)) (sound.simple 1 ([], []) (omega arith))
+named_sound = two_sound (codes "m1") (codes "b") (pos 0) (pos 10) (square_at 0) (square_at 10)
+    (sound.simple 0 ([], []) (omega arith)) (sound.simple 1 ([], []) (omega arith))
 
 overlap : Correspond named 0 0 0
 unfolding depth is_inside around
 overlap = record {
   below = omega arith;
   above = omega arith;
-  agree = (refl, inl (record { e = 0; within = omega arith; edge = record { f = 0; within = omega arith; meet = record { s = 0; t = 0; e = 1; at = record { positive = omega arith; on_first = omega arith; on_second = omega arith; x = refl; y = refl } } } }));
+  agree = (
+    refl,
+    inl (record {
+      e = 0;
+      within = omega arith;
+      edge =
+          record {
+            f = 0;
+            within = omega arith;
+            meet =
+                record {
+                  s = 0;
+                  t = 0;
+                  e = 1;
+                  at =
+                      record { positive = omega arith; on_first = omega arith; on_second = omega arith; x = refl; y = refl };
+                };
+          };
+    }),
+  );
 }
 
 gaps : AreGaps named straight
@@ -78,28 +106,49 @@ short : All IsShort (sides_from named 0 straight)
 short = subst (All IsShort) (sym its_sides) (two_short 4 4 (omega arith) (omega arith))
 
 named_paired : ArePairs named (pair ∷ [])
-named_paired = record { linked = record { sound = named_sound; links = λ k l. absurd (omega (arith, l)) }; gaps = straight; are_gaps = gaps; short = short; pairs = sym its_pair }
+named_paired = record {
+  linked = record { sound = named_sound; links = λ k l. absurd (omega (arith, l)) };
+  gaps =
+      straight;
+  are_gaps = gaps;
+  short = short;
+  pairs = sym its_pair;
+}
 
 -- ---- their middle contour has that name too
 
 abbrev twice : Parts
-twice = parts (record { z = pos 0; contours = record { name = codes "m1"; count = pos 4; points = box 0 10 } ∷ [] } ∷ record { z = pos 5; contours = contour_through (codes "m1") eight ∷ [] } ∷ record { z = pos 10; contours = record { name = codes "b"; count = pos 4; points = box 0 10 } ∷ [] } ∷ []) (linked (codes "m1") (codes "m1") ∷ linked (codes "m1") (codes "b") ∷ [])
+twice = parts (record { z = pos 0; contours = record { name = codes "m1"; count = pos 4; points = box 0 10 } ∷ [] }
+    ∷ record { z = pos 5; contours = contour_through (codes "m1") eight ∷ [] }
+    ∷ record { z = pos 10; contours = record { name = codes "b"; count = pos 4; points = box 0 10 } ∷ [] } ∷ [])
+    (linked (codes "m1") (codes "m1") ∷ linked (codes "m1") (codes "b") ∷ [])
 
-own : (k : ℕ) → k < 1 → is_dense named (pair ∷ []) (pair_at (pair ∷ []) k).gap ≡ true → IsMiddleOutline named (pair_at (pair ∷ []) k) (outline_at (eight ∷ []) k)
+own : (k : ℕ) → k < 1 → is_dense named (pair ∷ []) (pair_at (pair ∷ []) k).gap ≡ true
+    → IsMiddleOutline named (pair_at (pair ∷ []) k) (outline_at (eight ∷ []) k)
 unfolding around
 own zero l d = record { solution = squares_solution; solves = solves; spots = refl }
 own (suc k) l d = absurd (omega (arith, l))
 
 densified : IsDensified named twice
 unfolding digits
-densified = record { pairs = pair ∷ []; are_pairs = named_paired; outlines = eight ∷ []; are_outlines = record { count = refl; each = own }; links = twice.links ∷ []; are_links = record { count = refl; each = each }; parts = refl }
+densified = record {
+  pairs = pair ∷ [];
+  are_pairs = named_paired;
+  outlines = eight ∷ [];
+  are_outlines =
+      record { count = refl; each = own };
+  links = twice.links ∷ [];
+  are_links = record { count = refl; each = each };
+  parts = refl;
+}
   where
     each : (g : ℕ) → g < 1 → AreLinksOf named (pair ∷ []) g (slice_index_or (twice.links ∷ []) g [])
     each zero l = AreLinksOf.of_dense refl refl
     each (suc g) l = absurd (omega (arith, l))
 
 abbrev eight_at : List Point
-eight_at = corner 0 0 5 ∷ corner 5 0 5 ∷ corner 10 0 5 ∷ corner 10 5 5 ∷ corner 10 10 5 ∷ corner 5 10 5 ∷ corner 0 10 5 ∷ corner 0 5 5 ∷ []
+eight_at = corner 0 0 5 ∷ corner 5 0 5 ∷ corner 10 0 5 ∷ corner 10 5 5 ∷ corner 10 10 5 ∷ corner 5 10 5 ∷ corner 0 10 5
+    ∷ corner 0 5 5 ∷ []
 
 abbrev spots : List Spot
 spots = (pos 0, pos 0) ∷ (pos 10, pos 0) ∷ (pos 10, pos 10) ∷ (pos 0, pos 10) ∷ []
@@ -107,20 +156,47 @@ spots = (pos 0, pos 0) ∷ (pos 10, pos 0) ∷ (pos 10, pos 10) ∷ (pos 0, pos 
 -- the second contour is at fault, after the first one and its points
 name_twice : (v : Vec Point Global) (u : Vec Contour Global) → HaveMakeFault twice (NameTwice 0)
 name_twice v u = record {
-  sections = section_at u 0 (contour_at v (codes "m1") (square_at 0) tt ∷ []) tt ∷ section_at u 5 (contour_at v (codes "m1") eight_at tt ∷ []) tt ∷ section_at u 10 (contour_at v (codes "b") (square_at 10) tt ∷ []) tt ∷ [];
+  sections = section_at u 0 (contour_at v (codes "m1") (square_at 0) tt ∷ []) tt
+      ∷ section_at u 5 (contour_at v (codes "m1") eight_at tt ∷ []) tt
+      ∷ section_at u 10 (contour_at v (codes "b") (square_at 10) tt ∷ []) tt ∷ [];
   links = record { below = codes "m1"; above = codes "m1" } ∷ record { below = codes "m1"; above = codes "b" } ∷ [];
   parts = refl;
-  flat = (((refl, (refl, (refl, (refl, tt)))), tt), (((refl, (refl, (refl, (refl, (refl, (refl, (refl, (refl, tt)))))))), tt), (((refl, (refl, (refl, (refl, tt)))), tt), tt)));
+  flat = (
+    ((refl, (refl, (refl, (refl, tt)))), tt),
+    (
+      ((refl, (refl, (refl, (refl, (refl, (refl, (refl, (refl, tt)))))))), tt),
+      (((refl, (refl, (refl, (refl, tt)))), tt), tt),
+    ),
+  );
   has = (
     name_once,
     record {
-      before = cost_is span ∷ section (pos 0) ∷ contour (codes "m1") (pos 4) ∷ point (pos 0, pos 0) ∷ point (pos 10, pos 0) ∷ point (pos 10, pos 10) ∷ point (pos 0, pos 10) ∷ section (pos 5) ∷ [];
+      before = cost_is span ∷ section (pos 0) ∷ contour (codes "m1") (pos 4) ∷ point (pos 0, pos 0)
+          ∷ point (pos 10, pos 0) ∷ point (pos 10, pos 10) ∷ point (pos 0, pos 10) ∷ section (pos 5) ∷ [];
       piece = whole (contour (codes "m1") (pos 8));
-      rest = whole (point (pos 0, pos 0)) ∷ whole (point (pos 5, pos 0)) ∷ whole (point (pos 10, pos 0)) ∷ whole (point (pos 10, pos 5)) ∷ whole (point (pos 10, pos 10)) ∷ whole (point (pos 5, pos 10)) ∷ whole (point (pos 0, pos 10)) ∷ whole (point (pos 0, pos 5))
-          ∷ whole (section (pos 10)) ∷ whole (contour (codes "b") (pos 4)) ∷ whole (point (pos 0, pos 0)) ∷ whole (point (pos 10, pos 0)) ∷ whole (point (pos 10, pos 10)) ∷ whole (point (pos 0, pos 10))
+      rest = whole (point (pos 0, pos 0)) ∷ whole (point (pos 5, pos 0)) ∷ whole (point (pos 10, pos 0))
+          ∷ whole (point (pos 10, pos 5)) ∷ whole (point (pos 10, pos 10)) ∷ whole (point (pos 5, pos 10))
+          ∷ whole (point (pos 0, pos 10)) ∷ whole (point (pos 0, pos 5))
+          ∷ whole (section (pos 10)) ∷ whole (contour (codes "b") (pos 4)) ∷ whole (point (pos 0, pos 0))
+          ∷ whole (point (pos 10, pos 0)) ∷ whole (point (pos 10, pos 10)) ∷ whole (point (pos 0, pos 10))
           ∷ whole (link (linked (codes "m1") (codes "m1"))) ∷ whole (link (linked (codes "m1") (codes "b"))) ∷ [];
       split = refl;
-      lawful_before = ((((omega arith, (omega arith, tt)), tt), points, tt), (((tt, tt), tt), (((omega (arith, ints), tt), tt), (((omega (arith, ints), omega (arith, ints)), tt), ((omega arith, (omega arith, tt)), (omega arith, (omega arith, (omega arith, (omega arith, (omega arith, tt))))))))));
+      lawful_before = (
+        (((omega arith, (omega arith, tt)), tt), points, tt),
+        (
+          ((tt, tt), tt),
+          (
+            ((omega (arith, ints), tt), tt),
+            (
+              ((omega (arith, ints), omega (arith, ints)), tt),
+              (
+                (omega arith, (omega arith, tt)),
+                (omega arith, (omega arith, (omega arith, (omega arith, (omega arith, tt))))),
+              ),
+            ),
+          ),
+        ),
+      );
       breaks = (1, refl, ((((omega arith, (omega arith, tt)), tt), points, tt), tt), λ h. h.0.0.0 refl);
     },
     refl,
@@ -128,7 +204,11 @@ name_twice v u = record {
 }
   where
     points : AllByRecursion IsSpot spots
-    points = ((omega arith, omega arith), ((omega arith, omega arith), ((omega arith, omega arith), ((omega arith, omega arith), tt))))
+    points = (
+      (omega arith, omega arith),
+      ((omega arith, omega arith), ((omega arith, omega arith), ((omega arith, omega arith), tt))),
+    )
 
 taken : (v : Vec Point Global) (u : Vec Contour Global) → IsMiddleFault named (NameTwice 0)
-taken v u = IsMiddleFault.in_parts twice (NameTwice 0) densified (name_twice v u) (λ e. absurd (let t : NameTwice 0 ≡ NoMemory = e in cc))
+taken v u = IsMiddleFault.in_parts twice (NameTwice 0) densified (name_twice v u)
+    (λ e. absurd (let t : NameTwice 0 ≡ NoMemory = e in cc))

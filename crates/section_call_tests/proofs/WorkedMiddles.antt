@@ -16,7 +16,8 @@ use Rattle.section_call_tests.proofs.WorkedObjects.{pair_solved}
 -- ---- dense pairs
 
 -- a pair of a gap with a rise of 2 or more
-dense : dense_pairs (stack (at 0 (contour 97 (box 0 10) ∷ []) ∷ at 2 (contour 98 (box 0 10) ∷ []) ∷ [])) (pair ∷ []) ≡ pair ∷ []
+dense : dense_pairs (stack (at 0 (contour 97 (box 0 10) ∷ []) ∷ at 2 (contour 98 (box 0 10) ∷ []) ∷ [])) (pair ∷ [])
+    ≡ pair ∷ []
 dense = refl
 
 -- ---- outlines
@@ -38,7 +39,8 @@ outline = record { solution = squares_solution; solves = solves; spots = refl }
 outlines : AreMiddleOutlines squares (pair ∷ []) (eight ∷ [])
 outlines = record { count = refl; each = own }
   where
-    own : (k : ℕ) → k < 1 → is_dense squares (pair ∷ []) (pair_at (pair ∷ []) k).gap ≡ true → IsMiddleOutline squares (pair_at (pair ∷ []) k) (outline_at (eight ∷ []) k)
+    own : (k : ℕ) → k < 1 → is_dense squares (pair ∷ []) (pair_at (pair ∷ []) k).gap ≡ true
+        → IsMiddleOutline squares (pair_at (pair ∷ []) k) (outline_at (eight ∷ []) k)
     own zero l d = outline
     own (suc k) l d = absurd (omega (arith, l))
 
@@ -68,10 +70,19 @@ abbrev with_middle : Parts
 with_middle = record {
   cost = span;
   rule = Links;
-  sections = at 0 (contour 97 (box 0 10) ∷ []) ∷ at 5 (contour_through (codes "m1") eight ∷ []) ∷ at 10 (contour 98 (box 0 10) ∷ []) ∷ [];
+  sections = at 0 (contour 97 (box 0 10) ∷ []) ∷ at 5 (contour_through (codes "m1") eight ∷ [])
+      ∷ at 10 (contour 98 (box 0 10) ∷ []) ∷ [];
   links = through_middle;
 }
 
 densified : IsDensified squares with_middle
 unfolding digits
-densified = record { pairs = pair ∷ []; are_pairs = squares_paired; outlines = eight ∷ []; are_outlines = outlines; links = through_middle ∷ []; are_links = all_links; parts = refl }
+densified = record {
+  pairs = pair ∷ [];
+  are_pairs = squares_paired;
+  outlines = eight ∷ [];
+  are_outlines = outlines;
+  links = through_middle ∷ [];
+  are_links = all_links;
+  parts = refl;
+}

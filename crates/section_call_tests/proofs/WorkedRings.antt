@@ -22,17 +22,21 @@ use Rattle.ring_caps.specs.RingSurfaces.{IsRingSurface, HasLongGroup, IsRingFoun
 
 -- a square with a square hole, by itself: a group of two
 abbrev holed : Parts
-holed = stack (at 0 (contour 111 ((pos 0, pos 0) ∷ (pos 30, pos 0) ∷ (pos 30, pos 30) ∷ (pos 0, pos 30) ∷ []) ∷ contour 104 ((pos 10, pos 10) ∷ (pos 20, pos 10) ∷ (pos 20, pos 20) ∷ (pos 10, pos 20) ∷ []) ∷ []) ∷ [])
+holed = stack (at 0 (contour 111 ((pos 0, pos 0) ∷ (pos 30, pos 0) ∷ (pos 30, pos 30) ∷ (pos 0, pos 30) ∷ [])
+    ∷ contour 104 ((pos 10, pos 10) ∷ (pos 20, pos 10) ∷ (pos 20, pos 20) ∷ (pos 10, pos 20) ∷ []) ∷ []) ∷ [])
 
 abbrev holed_vertices : List Point
-holed_vertices = corner 0 0 0 ∷ corner 30 0 0 ∷ corner 30 30 0 ∷ corner 0 30 0 ∷ corner 10 10 0 ∷ corner 20 10 0 ∷ corner 20 20 0 ∷ corner 10 20 0 ∷ []
+holed_vertices = corner 0 0 0 ∷ corner 30 0 0 ∷ corner 30 30 0 ∷ corner 0 30 0 ∷ corner 10 10 0 ∷ corner 20 10 0
+    ∷ corner 20 20 0 ∷ corner 10 20 0 ∷ []
 
 -- its points in file order, and one part: the bottom cap, turned over, and the top cap, which leave the hole open
 holed_surface : IsRingSurface holed [] [] (record {
   vertices = holed_vertices;
   parts = (
-      (3 ∷ 4 ∷ 0 ∷ []) ∷ (3 ∷ 7 ∷ 4 ∷ []) ∷ (3 ∷ 6 ∷ 7 ∷ []) ∷ (5 ∷ 0 ∷ 4 ∷ []) ∷ (5 ∷ 1 ∷ 0 ∷ []) ∷ (6 ∷ 1 ∷ 5 ∷ []) ∷ (6 ∷ 2 ∷ 1 ∷ []) ∷ (6 ∷ 3 ∷ 2 ∷ [])
-      ∷ (3 ∷ 0 ∷ 4 ∷ []) ∷ (3 ∷ 4 ∷ 7 ∷ []) ∷ (3 ∷ 7 ∷ 6 ∷ []) ∷ (5 ∷ 4 ∷ 0 ∷ []) ∷ (5 ∷ 0 ∷ 1 ∷ []) ∷ (6 ∷ 5 ∷ 1 ∷ []) ∷ (6 ∷ 1 ∷ 2 ∷ []) ∷ (6 ∷ 2 ∷ 3 ∷ []) ∷ []
+      (3 ∷ 4 ∷ 0 ∷ []) ∷ (3 ∷ 7 ∷ 4 ∷ []) ∷ (3 ∷ 6 ∷ 7 ∷ []) ∷ (5 ∷ 0 ∷ 4 ∷ []) ∷ (5 ∷ 1 ∷ 0 ∷ []) ∷ (6 ∷ 1 ∷ 5 ∷ [])
+      ∷ (6 ∷ 2 ∷ 1 ∷ []) ∷ (6 ∷ 3 ∷ 2 ∷ [])
+      ∷ (3 ∷ 0 ∷ 4 ∷ []) ∷ (3 ∷ 4 ∷ 7 ∷ []) ∷ (3 ∷ 7 ∷ 6 ∷ []) ∷ (5 ∷ 4 ∷ 0 ∷ []) ∷ (5 ∷ 0 ∷ 1 ∷ []) ∷ (6 ∷ 5 ∷ 1 ∷ [])
+      ∷ (6 ∷ 1 ∷ 2 ∷ []) ∷ (6 ∷ 2 ∷ 3 ∷ []) ∷ []
       ) ∷ [];
 })
 unfolding parent oriented ring_from depth is_inside least_bridge distance_square square is_ear places_by
@@ -47,13 +51,25 @@ sizes = refl
 
 -- the first composite of more than 4,096 vertices; the fault has its section and its size
 first_long : IsFirstFault IsShort HasLongGroup ((1, 4) ∷ (2, 4097) ∷ (2, 5000) ∷ []) (CapLimit 2 4097)
-first_long = record { before = (1, 4) ∷ []; item = (2, 4097); after = (2, 5000) ∷ []; split = refl; good_before = All-cons IsShort (1, 4) [] (omega arith) (All-nil IsShort); has = (refl, refl, omega arith) }
+first_long = record {
+  before = (1, 4) ∷ [];
+  item = (2, 4097);
+  after = (2, 5000) ∷ [];
+  split = refl;
+  good_before =
+      All-cons IsShort (1, 4) [] (omega arith) (All-nil IsShort);
+  has = (refl, refl, omega arith);
+}
 
 -- ---- the first fault
 
 -- if sections have their pairs, whatever they are, the first group that is too long; and the same for objects
-found : (S : Parts) (ps : List PairParts) → ArePairs S ps → group_sizes S ps ≡ (1, 4) ∷ (2, 4097) ∷ (2, 5000) ∷ [] → IsRingFound S (CapLimit 2 4097)
-found S ps are e = IsRingFound.in_groups (CapLimit 2 4097) ps are (subst (λ (l : List (ℕ × ℕ)). IsFirstFault IsShort HasLongGroup l (CapLimit 2 4097)) (sym e) first_long)
+found : (S : Parts) (ps : List PairParts) → ArePairs S ps → group_sizes S ps ≡ (1, 4) ∷ (2, 4097) ∷ (2, 5000) ∷ []
+    → IsRingFound S (CapLimit 2 4097)
+found S ps are e = IsRingFound.in_groups (CapLimit 2 4097) ps are
+    (subst (λ (l : List (ℕ × ℕ)). IsFirstFault IsShort HasLongGroup l (CapLimit 2 4097)) (sym e) first_long)
 
-found_among : (F : FileParts) (pss : List (List PairParts)) → AreAllPairs F pss → all_group_sizes (objects_in F) pss ≡ (1, 4) ∷ (2, 4097) ∷ (2, 5000) ∷ [] → IsRingFoundIn F (CapLimit 2 4097)
-found_among F pss are e = IsRingFoundIn.in_groups (CapLimit 2 4097) pss are (subst (λ (l : List (ℕ × ℕ)). IsFirstFault IsShort HasLongGroup l (CapLimit 2 4097)) (sym e) first_long)
+found_among : (F : FileParts) (pss : List (List PairParts)) → AreAllPairs F pss
+    → all_group_sizes (objects_in F) pss ≡ (1, 4) ∷ (2, 4097) ∷ (2, 5000) ∷ [] → IsRingFoundIn F (CapLimit 2 4097)
+found_among F pss are e = IsRingFoundIn.in_groups (CapLimit 2 4097) pss are
+    (subst (λ (l : List (ℕ × ℕ)). IsFirstFault IsShort HasLongGroup l (CapLimit 2 4097)) (sym e) first_long)

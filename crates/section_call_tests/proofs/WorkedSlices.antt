@@ -12,5 +12,7 @@ use Rattle.section_slices.specs.Slices.{IsSliceFault, at_height, outside, on_sec
 no_slices : IsSliceFault squares (pos 10) (OnSection (pos 10)) × IsSliceFault squares (negsuc 0) (Outside (negsuc 0))
 no_slices = (
   at_height (OnSection (pos 10)) (pair ∷ []) squares_paired (on_section (1, omega arith, refl)),
-  at_height (Outside (negsuc 0)) (pair ∷ []) squares_paired (outside (inl (All-from_recursion (λ (s : SectionParts). negsuc 0 <ℤ s.z) squares.sections (omega (arith, ints), (omega (arith, ints), tt))))),
+  at_height (Outside (negsuc 0)) (pair ∷ []) squares_paired
+      (outside (inl (All-from_recursion (λ (s : SectionParts). negsuc 0 <ℤ s.z) squares.sections
+      (omega (arith, ints), (omega (arith, ints), tt))))),
 )

@@ -37,7 +37,8 @@ name_byte_clean b e = grind (arith, nat_tests)
 
 name_bytes_clean : (bs : List ℕ) → list_all is_name_byte bs ≡ true → AreClean bs
 name_bytes_clean [] e = tt
-name_bytes_clean (b ∷ bs) e = let p = and_parts (is_name_byte b) (list_all is_name_byte bs) e in (name_byte_clean b p.0, name_bytes_clean bs p.1)
+name_bytes_clean (b ∷ bs) e = let p = and_parts (is_name_byte b) (list_all is_name_byte bs) e in
+    (name_byte_clean b p.0, name_bytes_clean bs p.1)
 
 name_clean : (bs : List ℕ) → is_name bs ≡ true → IsClean bs
 name_clean bs e =
@@ -49,7 +50,8 @@ small_coordinate : (z : ℤ) → IsCoordinate z → unsigned_abs z < 10 ^ 64
 small_coordinate z h = omega (arith, h)
 
 small_count : (z : ℤ) → (pos 3 ≤ℤ z) × (z ≤ℤ pos MAX_CONTOUR_VERTICES) → unsigned_abs z < 10 ^ 64
-small_count (pos n) h = let k : pos n ≤ℤ pos MAX_CONTOUR_VERTICES = h.1 in let m : n ≤ MAX_CONTOUR_VERTICES = omega (arith, ints) in omega (arith, m)
+small_count (pos n) h = let k : pos n ≤ℤ pos MAX_CONTOUR_VERTICES = h.1 in let m : n ≤ MAX_CONTOUR_VERTICES =
+    omega (arith, ints) in omega (arith, m)
 small_count (negsuc n) h = let k : pos 3 ≤ℤ negsuc n = h.0 in absurd (omega (arith, ints))
 
 points_ok : (ps : List Spot) → AllByRecursion IsSpot ps → AllByRecursion IsWritableLine (map point_line ps)
@@ -57,22 +59,34 @@ points_ok [] h = tt
 points_ok (p ∷ ps) h = ((omega arith, (small_coordinate p.0 h.0.0, (small_coordinate p.1 h.0.1, tt))), points_ok ps h.1)
 
 abbrev IsContourOk : ContourParts → Type 0
-IsContourOk c = (is_name c.name ≡ true) × ((pos 3 ≤ℤ c.count) × (c.count ≤ℤ pos MAX_CONTOUR_VERTICES)) × AllByRecursion IsSpot c.points
+IsContourOk c = (is_name c.name ≡ true) × ((pos 3 ≤ℤ c.count) × (c.count ≤ℤ pos MAX_CONTOUR_VERTICES))
+    × AllByRecursion IsSpot c.points
 
-contours_good : (cs : List ContourParts) → AllByRecursion IsCountedContour cs → AllByRecursion IsPointCount (map (λ (c : ContourParts). c.count) cs) → AllByRecursion IsSpot (flat_map (λ (c : ContourParts). c.points) cs) → AllByRecursion IsContourOk cs
+contours_good : (cs : List ContourParts) → AllByRecursion IsCountedContour cs
+    → AllByRecursion IsPointCount (map (λ (c : ContourParts). c.count) cs)
+    → AllByRecursion IsSpot (flat_map (λ (c : ContourParts). c.points) cs) → AllByRecursion IsContourOk cs
 contours_good [] h k s = tt
 contours_good (c ∷ cs) h k s =
     let rest = flat_map (λ (d : ContourParts). d.points) cs in
     ((h.0.0, k.0, all_front IsSpot c.points rest s), contours_good cs h.1 k.1 (all_rest IsSpot c.points rest s))
 
-contours_ok : (cs : List ContourParts) → AllByRecursion IsContourOk cs → AllByRecursion IsWritableLine (flat_map contour_lines cs)
+contours_ok : (cs : List ContourParts) → AllByRecursion IsContourOk cs
+    → AllByRecursion IsWritableLine (flat_map contour_lines cs)
 contours_ok [] h = tt
 contours_ok (c ∷ cs) h = (
-  (omega arith, ((omega arith, clean_by (codes "CONTOUR") refl), (name_clean c.name h.0.0, (small_count c.count h.0.1, tt)))),
-  all_join IsWritableLine (map point_line c.points) (flat_map contour_lines cs) (points_ok c.points h.0.2) (contours_ok cs h.1),
+  (
+    omega arith,
+    (
+      (omega arith, clean_by (codes "CONTOUR") refl),
+      (name_clean c.name h.0.0, (small_count c.count h.0.1, tt)),
+    ),
+  ),
+  all_join IsWritableLine (map point_line c.points) (flat_map contour_lines cs) (points_ok c.points h.0.2)
+      (contours_ok cs h.1),
 )
 
-sections_ok : (ss : List SectionParts) → AllByRecursion IsCoordinate (heights ss) → AllByRecursion IsContourOk (contours_of ss) → AllByRecursion IsWritableLine (flat_map section_lines ss)
+sections_ok : (ss : List SectionParts) → AllByRecursion IsCoordinate (heights ss)
+    → AllByRecursion IsContourOk (contours_of ss) → AllByRecursion IsWritableLine (flat_map section_lines ss)
 sections_ok [] z h = tt
 sections_ok (s ∷ ss) z h = (
   (omega arith, ((omega arith, clean_by (codes "SECTION") refl), (small_coordinate s.z z.0, tt))),
@@ -83,17 +97,41 @@ sections_ok (s ∷ ss) z h = (
 
 links_ok : (ls : List LinkParts) → AllByRecursion IsLink ls → AllByRecursion IsWritableLine (map link_line ls)
 links_ok [] h = tt
-links_ok (l ∷ ls) h = ((omega arith, ((omega arith, clean_by (codes "LINK") refl), (name_clean l.below h.0.0, (name_clean l.above h.0.1, tt)))), links_ok ls h.1)
+links_ok (l ∷ ls) h = (
+  (
+    omega arith,
+    ((omega arith, clean_by (codes "LINK") refl), (name_clean l.below h.0.0, (name_clean l.above h.0.1, tt))),
+  ),
+  links_ok ls h.1,
+)
 
-rule_links_ok : (rule : PairRule) (ls : List LinkParts) → IsLinked rule ls → AllByRecursion IsWritableLine (link_lines rule ls)
+rule_links_ok : (rule : PairRule) (ls : List LinkParts) → IsLinked rule ls
+    → AllByRecursion IsWritableLine (link_lines rule ls)
 rule_links_ok Overlap ls h = tt
 rule_links_ok Links ls h = links_ok ls h
 
 cost_clean : (cost : CostParts) → AllByRecursion IsMix (weights cost) → IsWritableLine (cost_line cost)
-cost_clean span w = (omega arith, ((omega arith, clean_by (codes "COST") refl), ((omega arith, clean_by (codes "span") refl), tt)))
-cost_clean area w = (omega arith, ((omega arith, clean_by (codes "COST") refl), ((omega arith, clean_by (codes "area") refl), tt)))
-cost_clean (mix (pos a) (pos b)) w =
-    (omega arith, ((omega arith, clean_by (codes "COST") refl), ((omega arith, clean_by (codes "mix") refl), (omega (arith, w.0.0), (omega (arith, w.0.1), tt)))))
+cost_clean span w = (
+  omega arith,
+  (
+    (omega arith, clean_by (codes "COST") refl),
+    ((omega arith, clean_by (codes "span") refl), tt),
+  ),
+)
+cost_clean area w = (
+  omega arith,
+  (
+    (omega arith, clean_by (codes "COST") refl),
+    ((omega arith, clean_by (codes "area") refl), tt),
+  ),
+)
+cost_clean (mix (pos a) (pos b)) w = (
+  omega arith,
+  (
+    (omega arith, clean_by (codes "COST") refl),
+    ((omega arith, clean_by (codes "mix") refl), (omega (arith, w.0.0), (omega (arith, w.0.1), tt))),
+  ),
+)
 cost_clean (mix (negsuc a) b) w = absurd w.0
 cost_clean (mix (pos a) (negsuc b)) w = absurd w.0
 
@@ -102,25 +140,37 @@ rule_clean Overlap = (omega arith, clean_by (codes "overlap") refl)
 rule_clean Links = (omega arith, clean_by (codes "links") refl)
 
 -- one object's lines
-body_ok : (rule : PairRule) (ss : List SectionParts) (ls : List LinkParts) → AllByRecursion IsCoordinate (heights ss) → AllByRecursion IsContourOk (contours_of ss) → IsLinked rule ls → AllByRecursion IsWritableLine (body_lines rule ss ls)
-body_ok rule ss ls h c l = all_join IsWritableLine (flat_map section_lines ss) (link_lines rule ls) (sections_ok ss h c) (rule_links_ok rule ls l)
+body_ok : (rule : PairRule) (ss : List SectionParts) (ls : List LinkParts) → AllByRecursion IsCoordinate (heights ss)
+    → AllByRecursion IsContourOk (contours_of ss) → IsLinked rule ls
+    → AllByRecursion IsWritableLine (body_lines rule ss ls)
+body_ok rule ss ls h c l = all_join IsWritableLine (flat_map section_lines ss) (link_lines rule ls) (sections_ok ss h c)
+    (rule_links_ok rule ls l)
 
 name_ok : (v : Version) (name : List ℕ) → is_name name ≡ true → AllByRecursion IsWritableLine (name_lines v name)
 name_ok One name n = tt
 name_ok Two name n = ((omega arith, ((omega arith, clean_by (codes "OBJECT") refl), (name_clean name n, tt))), tt)
 
-objects_ok : (v : Version) (rule : PairRule) (os : List ObjectParts) → AllByRecursion (λ (o : ObjectParts). is_name o.name ≡ true) os → AllByRecursion (AllByRecursion IsCoordinate) (map (λ (o : ObjectParts). heights o.sections) os) → AllByRecursion IsContourOk (contours_of (all_sections os)) → AllByRecursion (λ (o : ObjectParts). IsLinked rule o.links) os → AllByRecursion IsWritableLine (flat_map (object_lines v rule) os)
+objects_ok : (v : Version) (rule : PairRule) (os : List ObjectParts)
+    → AllByRecursion (λ (o : ObjectParts). is_name o.name ≡ true) os
+    → AllByRecursion (AllByRecursion IsCoordinate) (map (λ (o : ObjectParts). heights o.sections) os)
+    → AllByRecursion IsContourOk (contours_of (all_sections os))
+    → AllByRecursion (λ (o : ObjectParts). IsLinked rule o.links) os
+    → AllByRecursion IsWritableLine (flat_map (object_lines v rule) os)
 objects_ok v rule [] n h c l = tt
 objects_ok v rule (o ∷ os) n h c l =
-    let g = subst (AllByRecursion IsContourOk) (flat_map-append (λ (s : SectionParts). s.contours) o.sections (all_sections os)) c in
+    let g = subst (AllByRecursion IsContourOk)
+    (flat_map-append (λ (s : SectionParts). s.contours) o.sections (all_sections os)) c in
     let here = all_front IsContourOk (contours_of o.sections) (contours_of (all_sections os)) g in
     let there = all_rest IsContourOk (contours_of o.sections) (contours_of (all_sections os)) g in
     all_join IsWritableLine (object_lines v rule o) (flat_map (object_lines v rule) os)
-    (all_join IsWritableLine (name_lines v o.name) (body_lines rule o.sections o.links) (name_ok v o.name n.0) (body_ok rule o.sections o.links h.0 here l.0))
+    (all_join IsWritableLine (name_lines v o.name) (body_lines rule o.sections o.links) (name_ok v o.name n.0)
+    (body_ok rule o.sections o.links h.0 here l.0))
     (objects_ok v rule os n.1 h.1 there l.1)
 
-pub names_good : (v : Version) (os : List ObjectParts) → AreObjects v os → AllByRecursion (λ (o : ObjectParts). is_name o.name ≡ true) os
-names_good One os h = subst (AllByRecursion (λ (o : ObjectParts). is_name o.name ≡ true)) (sym h.1) (subst (λ (n : List ℕ). is_name n ≡ true) (sym h.2) refl, tt)
+pub names_good : (v : Version) (os : List ObjectParts) → AreObjects v os
+    → AllByRecursion (λ (o : ObjectParts). is_name o.name ≡ true) os
+names_good One os h = subst (AllByRecursion (λ (o : ObjectParts). is_name o.name ≡ true)) (sym h.1)
+    (subst (λ (n : List ℕ). is_name n ≡ true) (sym h.2) refl, tt)
 names_good Two os h = h
 
 version_ok : (v : Version) → IsWritableLine (version_line v)
@@ -135,14 +185,16 @@ lines_ok F p l = (
     (
       (omega arith, ((omega arith, clean_by (codes "PAIR") refl), (rule_clean F.rule, tt))),
       all_join IsWritableLine (flat_map (object_lines F.version F.rule) F.objects) (end_line ∷ [])
-          (objects_ok F.version F.rule F.objects (names_good F.version F.objects p.objects) l.0.0 (contours_good (contours_of (all_sections F.objects)) p.contours l.1.1.1.0 l.0.1) p.links)
+          (objects_ok F.version F.rule F.objects (names_good F.version F.objects p.objects) l.0.0
+          (contours_good (contours_of (all_sections F.objects)) p.contours l.1.1.1.0 l.0.1) p.links)
           ((omega arith, ((omega arith, clean_by (codes "END") refl), tt)), tt),
     ),
   ),
 )
 
 -- the definition reads the canonical text as the parts, with an empty tail
-pub file_reads : (w : Version) (F : FileParts) → IsAcceptedFile F → is_read w F.version ≡ true → HasFile w (kept_lines (text_of_file F)) F []
+pub file_reads : (w : Version) (F : FileParts) → IsAcceptedFile F → is_read w F.version ≡ true
+    → HasFile w (kept_lines (text_of_file F)) F []
 file_reads w F a r = record {
   front = kept_lines (text_of_file F);
   split = sym (append-nil (kept_lines (text_of_file F)));

@@ -19,7 +19,8 @@ origins-in_range zero = tt
 origins-in_range (suc n) = (origin-in_range, origins-in_range n)
 
 -- more points in range break no law
-keeps-points : (law : Law) (f : Facts) (more : List Spot) → AllByRecursion IsSpot more → Keeps law f → Keeps law (record f { points = f.points ++ more })
+keeps-points : (law : Law) (f : Facts) (more : List Spot) → AllByRecursion IsSpot more → Keeps law f
+    → Keeps law (record f { points = f.points ++ more })
 keeps-points in_range f more h k = (k.0, all_join IsSpot f.points more k.1 h, k.2)
 keeps-points name_once f more h k = k
 keeps-points rising f more h k = k
@@ -48,22 +49,26 @@ keeps-fresh (within limit.Objects) = omega arith
 keeps-fresh (within limit.Bytes) = tt
 keeps-fresh (within limit.Edits) = tt
 
-keeps-body : (law : Law) (v : Version) (ws : List (ℤ × ℤ)) (objects : List ObjectParts) (name : List ℕ) (body : Body) → Keeps law (joined_body v ws objects name body) → Keeps law (joined_body v ws objects name (completed_body body))
+keeps-body : (law : Law) (v : Version) (ws : List (ℤ × ℤ)) (objects : List ObjectParts) (name : List ℕ) (body : Body)
+    → Keeps law (joined_body v ws objects name body) → Keeps law (joined_body v ws objects name (completed_body body))
 keeps-body law v ws objects name bare k = k
 keeps-body law v ws objects name (in_section front z contours) k = k
 keeps-body law v ws objects name (in_contour front z contours title count ps missing) k =
     let more : List Spot = replicate (suc missing) origin in
     subst (Keeps law) (sym (joined-points v ws objects name front z contours title count ps more))
-    (keeps-points law (joined v ws objects name (with_section front z (with_contour contours title count ps)) []) more (origins-in_range (suc missing)) k)
+    (keeps-points law (joined v ws objects name (with_section front z (with_contour contours title count ps)) []) more
+    (origins-in_range (suc missing)) k)
 keeps-body law v ws objects name (in_links sections links) k = k
 
 -- a law that holds of the parts read so far holds of the completed parts
-pub keeps-completed : (law : Law) (state : State) → Keeps law (facts (parts_of state)) → Keeps law (facts (completed state))
+pub keeps-completed : (law : Law) (state : State) → Keeps law (facts (parts_of state))
+    → Keeps law (facts (completed state))
 keeps-completed law at_version k = keeps-fresh law
 keeps-completed law (at_cost v) k = k
 keeps-completed law (at_rule v cost) k = k
 keeps-completed law (no_object cost rule) k = k
 keeps-completed law (in_object v cost rule front name body) k =
     subst (Keeps law) (sym (facts-joined v cost rule front (object_of name (completed_body body))))
-    (keeps-body law v (weights cost) front name body (subst (Keeps law) (facts-joined v cost rule front (object_of name body)) k))
+    (keeps-body law v (weights cost) front name body
+    (subst (Keeps law) (facts-joined v cost rule front (object_of name body)) k))
 keeps-completed law (ended parts) k = k

@@ -12,7 +12,9 @@ use Rattle.section_core.proofs.SoFar.{some_is, if_some, inside_cases}
 use Rattle.section_core.proofs.JoinedFacts.{joined, same_facts, facts-joined, joined-step}
 
 -- one more object, of which nothing has been read
-facts-object : (cost : CostParts) (rule : PairRule) (objects : List ObjectParts) (n : List ℕ) → facts (parts_of (in_object Two cost rule objects n bare)) ≡ after (facts (record { version = Two; cost = cost; rule = rule; objects = objects })) (object n)
+facts-object : (cost : CostParts) (rule : PairRule) (objects : List ObjectParts) (n : List ℕ)
+    → facts (parts_of (in_object Two cost rule objects n bare))
+    ≡ after (facts (record { version = Two; cost = cost; rule = rule; objects = objects })) (object n)
 facts-object cost rule objects n =
     let none = append-nil (all_sections objects) in
     facts-joined Two cost rule objects (object_of n bare)
@@ -26,16 +28,20 @@ facts-object cost rule objects n =
     (ap (map section_vertices) none)
     (omega arith)
 
-facts-inside : (v : Version) (cost : CostParts) (rule : PairRule) (front : List ObjectParts) (name : List ℕ) (body : Body) (item : Item) (next : State) → inside v cost rule front name body item ≡ Some next → facts (parts_of next) ≡ after (facts (parts_of (in_object v cost rule front name body))) item
+facts-inside : (v : Version) (cost : CostParts) (rule : PairRule) (front : List ObjectParts) (name : List ℕ)
+    (body : Body) (item : Item) (next : State) → inside v cost rule front name body item ≡ Some next
+    → facts (parts_of next) ≡ after (facts (parts_of (in_object v cost rule front name body))) item
 facts-inside v cost rule front name body item next e =
     elim (inside_cases v cost rule front name body item next e) [
       | inl h ↦
           ap (λ (s : State). facts (parts_of s)) h.4
           ∙ facts-object cost rule (front ++ object_of name body ∷ []) h.0
-          ∙ ap (λ (u : Version). after (facts (parts_of (in_object u cost rule front name body))) (object h.0)) (sym h.2)
+          ∙ ap (λ (u : Version). after (facts (parts_of (in_object u cost rule front name body))) (object h.0))
+          (sym h.2)
           ∙ ap (after (facts (parts_of (in_object v cost rule front name body)))) (sym h.1)
       | inr k ↦ elim k [
-        | inl h ↦ ap (λ (s : State). facts (parts_of s)) h.2 ∙ ap (after (facts (parts_of (in_object v cost rule front name body)))) (sym h.0)
+        | inl h ↦ ap (λ (s : State). facts (parts_of s)) h.2
+            ∙ ap (after (facts (parts_of (in_object v cost rule front name body)))) (sym h.0)
         | inr h ↦
             ap (λ (s : State). facts (parts_of s)) h.2
             ∙ facts-joined v cost rule front (object_of name h.0)
@@ -48,21 +54,29 @@ facts-version : (v : Version) → facts (parts_of (at_cost v)) ≡ after (facts 
 facts-version One = refl
 facts-version Two = refl
 
-facts-begun : (v : Version) (cost : CostParts) (rule : PairRule) → facts (parts_of (begun v cost rule)) ≡ facts (parts_of (at_rule v cost))
+facts-begun : (v : Version) (cost : CostParts) (rule : PairRule)
+    → facts (parts_of (begun v cost rule)) ≡ facts (parts_of (at_rule v cost))
 facts-begun One cost rule = refl
 facts-begun Two cost rule = refl
 
 -- one more item changes the facts so
-pub facts-advance : (w : Version) (state : State) (item : Item) (next : State) → advance w state item ≡ Some next → facts (parts_of next) ≡ after (facts (parts_of state)) item
-facts-advance w at_version (version v) next e = ap (λ (s : State). facts (parts_of s)) (sym (some_is (if_some (is_read w v) (Some (at_cost v)) next e).1)) ∙ facts-version v
+pub facts-advance : (w : Version) (state : State) (item : Item) (next : State) → advance w state item ≡ Some next
+    → facts (parts_of next) ≡ after (facts (parts_of state)) item
+facts-advance w at_version (version v) next e =
+    ap (λ (s : State). facts (parts_of s)) (sym (some_is (if_some (is_read w v) (Some (at_cost v)) next e).1))
+    ∙ facts-version v
 facts-advance w (at_cost v) (cost_is cost) next e = ap (λ (s : State). facts (parts_of s)) (sym (some_is e))
-facts-advance w (at_rule v cost) (rule_is rule) next e = ap (λ (s : State). facts (parts_of s)) (sym (some_is e)) ∙ facts-begun v cost rule
-facts-advance w (no_object cost rule) (object name) next e = ap (λ (s : State). facts (parts_of s)) (sym (some_is e)) ∙ facts-object cost rule [] name
+facts-advance w (at_rule v cost) (rule_is rule) next e = ap (λ (s : State). facts (parts_of s)) (sym (some_is e))
+    ∙ facts-begun v cost rule
+facts-advance w (no_object cost rule) (object name) next e = ap (λ (s : State). facts (parts_of s)) (sym (some_is e))
+    ∙ facts-object cost rule [] name
 facts-advance w (no_object cost rule) finish next e = ap (λ (s : State). facts (parts_of s)) (sym (some_is e))
-facts-advance w (in_object v cost rule front name body) item next e = facts-inside v cost rule front name body item next e
+facts-advance w (in_object v cost rule front name body) item next e =
+    facts-inside v cost rule front name body item next e
 facts-advance w state item next e = absurd (cc)
 
 -- a law that holds after a step held before it
-pub keeps-advance : (law : Law) (w : Version) (state : State) (item : Item) (next : State) → advance w state item ≡ Some next → Keeps law (facts (parts_of next)) → Keeps law (facts (parts_of state))
+pub keeps-advance : (law : Law) (w : Version) (state : State) (item : Item) (next : State)
+    → advance w state item ≡ Some next → Keeps law (facts (parts_of next)) → Keeps law (facts (parts_of state))
 keeps-advance law w state item next e k =
     keeps-before law (facts (parts_of state)) item (subst (Keeps law) (facts-advance w state item next e) k)

@@ -20,7 +20,8 @@ AreFew sums = AllByRecursion (λ n. n ≤ MAX_SECTION_VERTICES) sums
 -- the later facts go on where the earlier ones end
 record Grows (old new : Facts) : Type 0 where
   objects : (more : List (List ℕ)) × (new.objects ≡ old.objects ++ more)
-  in_range : AllByRecursion (AllByRecursion IsCoordinate) new.heights → AllByRecursion (AllByRecursion IsCoordinate) old.heights
+  in_range : AllByRecursion (AllByRecursion IsCoordinate) new.heights
+      → AllByRecursion (AllByRecursion IsCoordinate) old.heights
   rise : AllByRecursion AreRising new.heights → AllByRecursion AreRising old.heights
   sections : sum_by length old.heights ≤ sum_by length new.heights
   names : (more : List (List ℕ)) × (new.names ≡ old.names ++ more)
@@ -45,17 +46,23 @@ keeps-grown in_range old new g k = (
   all_front IsSpot old.points g.points.0 (subst (AllByRecursion IsSpot) g.points.1 k.1),
   all_front IsMix old.weights g.weights.0 (subst (AllByRecursion IsMix) g.weights.1 k.2),
 )
-keeps-grown name_once old new g k = (distinct-left old.names g.names.0 (subst AreDistinct g.names.1 k.0), distinct-left old.objects g.objects.0 (subst AreDistinct g.objects.1 k.1))
+keeps-grown name_once old new g k = (
+  distinct-left old.names g.names.0 (subst AreDistinct g.names.1 k.0),
+  distinct-left old.objects g.objects.0 (subst AreDistinct g.objects.1 k.1),
+)
 keeps-grown rising old new g k = g.rise k
 keeps-grown (within limit.ContourVertices) old new g k =
     let P : ℤ → Type 0 = IsPointCount in
     all_front P old.counts g.counts.0 (subst (AllByRecursion P) g.counts.1 k)
 keeps-grown (within limit.SectionVertices) old new g k = g.few k
-keeps-grown (within limit.Vertices) old new g k = omega (arith, k, ap (sum_by asked) g.counts.1, sum_by-append asked old.counts g.counts.0)
-keeps-grown (within limit.Contours) old new g k = omega (arith, k, ap length g.names.1, length-append old.names g.names.0)
+keeps-grown (within limit.Vertices) old new g k =
+    omega (arith, k, ap (sum_by asked) g.counts.1, sum_by-append asked old.counts g.counts.0)
+keeps-grown (within limit.Contours) old new g k =
+    omega (arith, k, ap length g.names.1, length-append old.names g.names.0)
 keeps-grown (within limit.Sections) old new g k = omega (arith, k, g.sections)
 keeps-grown (within limit.Links) old new g k = omega (arith, k, g.links)
-keeps-grown (within limit.Objects) old new g k = omega (arith, k, ap length g.objects.1, length-append old.objects g.objects.0)
+keeps-grown (within limit.Objects) old new g k =
+    omega (arith, k, ap length g.objects.1, length-append old.objects g.objects.0)
 keeps-grown (within limit.Bytes) old new g k = tt
 keeps-grown (within limit.Edits) old new g k = tt
 
@@ -64,7 +71,8 @@ few-before [] n h = tt
 few-before (m ∷ []) n h = (omega (arith, h.0), tt)
 few-before (m ∷ k ∷ sums) n h = (h.0, few-before (k ∷ sums) n h.1)
 
-in_range-before : (hs : List (List ℤ)) (z : ℤ) → AllByRecursion (AllByRecursion IsCoordinate) (push_last hs z) → AllByRecursion (AllByRecursion IsCoordinate) hs
+in_range-before : (hs : List (List ℤ)) (z : ℤ) → AllByRecursion (AllByRecursion IsCoordinate) (push_last hs z)
+    → AllByRecursion (AllByRecursion IsCoordinate) hs
 in_range-before [] z h = tt
 in_range-before (x ∷ []) z h = (all_front IsCoordinate x (z ∷ []) h.0, tt)
 in_range-before (x ∷ y ∷ hs) z h = (h.0, in_range-before (y ∷ hs) z h.1)
@@ -77,10 +85,16 @@ rise-before (x ∷ y ∷ hs) z h = (h.0, rise-before (y ∷ hs) z h.1)
 pub push_last-length : (hs : List (List ℤ)) (z : ℤ) → sum_by length (push_last hs z) ≡ sum_by length hs + 1
 push_last-length [] z = refl
 push_last-length (x ∷ []) z = omega (arith, length-append x (z ∷ []))
-push_last-length (x ∷ y ∷ hs) z = omega (arith, push_last-length (y ∷ hs) z, sum_by-append {X = List ℤ} length (x ∷ []) (push_last (y ∷ hs) z), sum_by-append {X = List ℤ} length (x ∷ []) (y ∷ hs))
+push_last-length (x ∷ y ∷ hs) z = omega (
+  arith,
+  push_last-length (y ∷ hs) z,
+  sum_by-append {X = List ℤ} length (x ∷ []) (push_last (y ∷ hs) z),
+  sum_by-append {X = List ℤ} length (x ∷ []) (y ∷ hs),
+)
 
 -- the same facts, except for one object that begins
-grows-object : (f : Facts) (objects more : List (List ℕ)) → objects ≡ f.objects ++ more → Grows f (record f { objects = objects; heights = f.heights ++ [] ∷ [] })
+grows-object : (f : Facts) (objects more : List (List ℕ)) → objects ≡ f.objects ++ more
+    → Grows f (record f { objects = objects; heights = f.heights ++ [] ∷ [] })
 grows-object f objects more e = record {
   objects = (more, e);
   in_range = all_front (AllByRecursion IsCoordinate) f.heights ([] ∷ []);

@@ -7,12 +7,14 @@ use Rattle.section_core.proofs.SoFar.{some_is}
 use Rattle.section_core.proofs.Verdicts.{Verdict}
 
 -- a law among those that facts keep
-pub keeps-at : (laws : List Law) (k : ℕ) (law : Law) (f : Facts) → slice_get laws k ≡ Some law → KeepsAll laws f → Keeps law f
+pub keeps-at : (laws : List Law) (k : ℕ) (law : Law) (f : Facts) → slice_get laws k ≡ Some law → KeepsAll laws f
+    → Keeps law f
 keeps-at [] k law f e h = absurd (cc)
 keeps-at (first ∷ laws) zero law f e h = subst (λ (l : Law). Keeps l f) (some_is e) h.0
 keeps-at (first ∷ laws) (suc k) law f e h = keeps-at laws k law f e h.1
 
-pub get-take : (laws : List Law) (j k : ℕ) (law : Law) → j < k → slice_get laws j ≡ Some law → slice_get (take k laws) j ≡ Some law
+pub get-take : (laws : List Law) (j k : ℕ) (law : Law) → j < k → slice_get laws j ≡ Some law
+    → slice_get (take k laws) j ≡ Some law
 get-take laws j zero law lt e = absurd (omega arith)
 get-take [] j (suc k) law lt e = e
 get-take (first ∷ laws) zero (suc k) law lt e = e

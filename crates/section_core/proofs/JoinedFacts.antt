@@ -15,35 +15,54 @@ use Rattle.section_core.specs.Steps.{after, add_last, push_last}
 use Rattle.section_core.proofs.SoFar.{some_is}
 use Rattle.section_core.proofs.Ends.{contours_of-push, contours_of-contour}
 
-heights-section : (front : List SectionParts) (z : ℤ) (contours : List ContourParts) → heights (with_section front z contours) ≡ heights front ++ z ∷ []
-heights-section front z contours = map-append (λ (s : SectionParts). s.z) front (record { z = z; contours = contours } ∷ [])
+heights-section : (front : List SectionParts) (z : ℤ) (contours : List ContourParts)
+    → heights (with_section front z contours) ≡ heights front ++ z ∷ []
+heights-section front z contours =
+    map-append (λ (s : SectionParts). s.z) front (record { z = z; contours = contours } ∷ [])
 
-names-contour : (front : List SectionParts) (z : ℤ) (contours : List ContourParts) (name : List ℕ) (count : ℤ) (ps : List Spot) → names (with_section front z (with_contour contours name count ps)) ≡ names (with_section front z contours) ++ name ∷ []
+names-contour : (front : List SectionParts) (z : ℤ) (contours : List ContourParts) (name : List ℕ) (count : ℤ)
+    (ps : List Spot) → names (with_section front z (with_contour contours name count ps))
+    ≡ names (with_section front z contours) ++ name ∷ []
 names-contour front z contours name count ps =
     let c : ContourParts = record { name = name; count = count; points = ps } in
-    ap (map (λ (c : ContourParts). c.name)) (contours_of-contour front z contours c) ∙ map-append (λ (c : ContourParts). c.name) (contours_of (with_section front z contours)) (c ∷ [])
+    ap (map (λ (c : ContourParts). c.name)) (contours_of-contour front z contours c)
+    ∙ map-append (λ (c : ContourParts). c.name) (contours_of (with_section front z contours)) (c ∷ [])
 
-counts-contour : (front : List SectionParts) (z : ℤ) (contours : List ContourParts) (name : List ℕ) (count : ℤ) (ps : List Spot) → counts (with_section front z (with_contour contours name count ps)) ≡ counts (with_section front z contours) ++ count ∷ []
+counts-contour : (front : List SectionParts) (z : ℤ) (contours : List ContourParts) (name : List ℕ) (count : ℤ)
+    (ps : List Spot) → counts (with_section front z (with_contour contours name count ps))
+    ≡ counts (with_section front z contours) ++ count ∷ []
 counts-contour front z contours name count ps =
     let c : ContourParts = record { name = name; count = count; points = ps } in
-    ap (map (λ (c : ContourParts). c.count)) (contours_of-contour front z contours c) ∙ map-append (λ (c : ContourParts). c.count) (contours_of (with_section front z contours)) (c ∷ [])
+    ap (map (λ (c : ContourParts). c.count)) (contours_of-contour front z contours c)
+    ∙ map-append (λ (c : ContourParts). c.count) (contours_of (with_section front z contours)) (c ∷ [])
 
-points-contour : (front : List SectionParts) (z : ℤ) (contours : List ContourParts) (name : List ℕ) (count : ℤ) (ps : List Spot) → points (with_section front z (with_contour contours name count ps)) ≡ points (with_section front z contours) ++ ps
+points-contour : (front : List SectionParts) (z : ℤ) (contours : List ContourParts) (name : List ℕ) (count : ℤ)
+    (ps : List Spot) → points (with_section front z (with_contour contours name count ps))
+    ≡ points (with_section front z contours) ++ ps
 points-contour front z contours name count ps =
     let c : ContourParts = record { name = name; count = count; points = ps } in
     ap (flat_map (λ (c : ContourParts). c.points)) (contours_of-contour front z contours c)
     ∙ flat_map-append (λ (c : ContourParts). c.points) (contours_of (with_section front z contours)) (c ∷ [])
     ∙ ap (λ (xs : List Spot). points (with_section front z contours) ++ xs) (append-nil ps)
 
-contours_of-section : (sections : List SectionParts) (z : ℤ) → contours_of (with_section sections z []) ≡ contours_of sections
+contours_of-section : (sections : List SectionParts) (z : ℤ)
+    → contours_of (with_section sections z []) ≡ contours_of sections
 contours_of-section sections z = contours_of-push sections z [] ∙ append-nil (contours_of sections)
 
-vertices-section : (front : List SectionParts) (z : ℤ) (contours : List ContourParts) → map section_vertices (with_section front z contours) ≡ map section_vertices front ++ sum_by (λ (c : ContourParts). asked c.count) contours ∷ []
+vertices-section : (front : List SectionParts) (z : ℤ) (contours : List ContourParts)
+    → map section_vertices (with_section front z contours) ≡ map section_vertices front
+    ++ sum_by (λ (c : ContourParts). asked c.count) contours ∷ []
 vertices-section front z contours = map-append section_vertices front (record { z = z; contours = contours } ∷ [])
 
-vertices-contour : (contours : List ContourParts) (name : List ℕ) (count : ℤ) (ps : List Spot) → sum_by (λ (c : ContourParts). asked c.count) (with_contour contours name count ps) ≡ sum_by (λ (c : ContourParts). asked c.count) contours + asked count
+vertices-contour : (contours : List ContourParts) (name : List ℕ) (count : ℤ) (ps : List Spot)
+    → sum_by (λ (c : ContourParts). asked c.count) (with_contour contours name count ps)
+    ≡ sum_by (λ (c : ContourParts). asked c.count) contours + asked count
 vertices-contour contours name count ps =
-    omega (arith, sum_by-append (λ (c : ContourParts). asked c.count) contours (record { name = name; count = count; points = ps } ∷ []))
+    omega (
+      arith,
+      sum_by-append (λ (c : ContourParts). asked c.count) contours
+          (record { name = name; count = count; points = ps } ∷ []),
+    )
 
 -- the names that are stated with one more object
 abbrev told : Version → List ObjectParts → List ℕ → List (List ℕ)
@@ -63,17 +82,34 @@ joined v ws front name sections links = record {
   links = sum_by (λ (o : ObjectParts). length o.links) front + length links;
 }
 
-pub same_facts : (f g : Facts) → f.objects ≡ g.objects → f.heights ≡ g.heights → f.names ≡ g.names → f.counts ≡ g.counts → f.points ≡ g.points → f.weights ≡ g.weights → f.sums ≡ g.sums → f.links ≡ g.links → f ≡ g
-same_facts f g o h n c p w s l = λ i. record { objects = o i; heights = h i; names = n i; counts = c i; points = p i; weights = w i; sums = s i; links = l i }
+pub same_facts : (f g : Facts) → f.objects ≡ g.objects → f.heights ≡ g.heights → f.names ≡ g.names → f.counts ≡ g.counts
+    → f.points ≡ g.points → f.weights ≡ g.weights → f.sums ≡ g.sums → f.links ≡ g.links → f ≡ g
+same_facts f g o h n c p w s l = λ i.
+    record {
+      objects = o i;
+      heights = h i;
+      names = n i;
+      counts = c i;
+      points = p i;
+      weights = w i;
+      sums = s i;
+      links =
+          l i;
+    }
 
-told-is : (v : Version) (front : List ObjectParts) (o : ObjectParts) → told_names v (front ++ o ∷ []) ≡ told v front o.name
+told-is : (v : Version) (front : List ObjectParts) (o : ObjectParts)
+    → told_names v (front ++ o ∷ []) ≡ told v front o.name
 told-is One front o = refl
 told-is Two front o = map-append (λ (p : ObjectParts). p.name) front (o ∷ [])
 
-pub all_sections-push : (front : List ObjectParts) (o : ObjectParts) → all_sections (front ++ o ∷ []) ≡ all_sections front ++ o.sections
-all_sections-push front o = flat_map-append (λ (p : ObjectParts). p.sections) front (o ∷ []) ∙ ap (λ (ss : List SectionParts). all_sections front ++ ss) (append-nil o.sections)
+pub all_sections-push : (front : List ObjectParts) (o : ObjectParts)
+    → all_sections (front ++ o ∷ []) ≡ all_sections front ++ o.sections
+all_sections-push front o = flat_map-append (λ (p : ObjectParts). p.sections) front (o ∷ [])
+    ∙ ap (λ (ss : List SectionParts). all_sections front ++ ss) (append-nil o.sections)
 
-pub facts-joined : (v : Version) (cost : CostParts) (rule : PairRule) (front : List ObjectParts) (o : ObjectParts) → facts (record { version = v; cost = cost; rule = rule; objects = front ++ o ∷ [] }) ≡ joined v (weights cost) front o.name o.sections o.links
+pub facts-joined : (v : Version) (cost : CostParts) (rule : PairRule) (front : List ObjectParts) (o : ObjectParts)
+    → facts (record { version = v; cost = cost; rule = rule; objects = front ++ o ∷ [] })
+    ≡ joined v (weights cost) front o.name o.sections o.links
 facts-joined v cost rule front o =
     let all = all_sections-push front o in
     same_facts _ (joined v (weights cost) front o.name o.sections o.links)
@@ -96,13 +132,18 @@ add_last-push [] m n = refl
 add_last-push (x ∷ []) m n = refl
 add_last-push (x ∷ y ∷ xs) m n = ap (λ (r : List ℕ). x ∷ r) (add_last-push (y ∷ xs) m n)
 
-joined-section : (v : Version) (ws : List (ℤ × ℤ)) (front : List ObjectParts) (name : List ℕ) (sections : List SectionParts) (links : List LinkParts) (z : ℤ) → joined v ws front name (with_section sections z []) links ≡ after (joined v ws front name sections links) (section z)
+joined-section : (v : Version) (ws : List (ℤ × ℤ)) (front : List ObjectParts) (name : List ℕ)
+    (sections : List SectionParts) (links : List LinkParts) (z : ℤ)
+    → joined v ws front name (with_section sections z []) links
+    ≡ after (joined v ws front name sections links) (section z)
 joined-section v ws front name sections links z =
     let old = joined v ws front name sections links in
     let all = all_sections front ++ sections in
     let hs = map (λ (o : ObjectParts). heights o.sections) front in
-    let push : all_sections front ++ with_section sections z [] ≡ with_section all z [] = sym (append_assoc (all_sections front) sections (record { z = z; contours = [] } ∷ [])) in
-    let same : contours_of (all_sections front ++ with_section sections z []) ≡ contours_of all = ap contours_of push ∙ contours_of-section all z in
+    let push : all_sections front ++ with_section sections z [] ≡ with_section all z [] =
+    sym (append_assoc (all_sections front) sections (record { z = z; contours = [] } ∷ [])) in
+    let same : contours_of (all_sections front ++ with_section sections z []) ≡ contours_of all = ap contours_of push
+    ∙ contours_of-section all z in
     same_facts _ (after old (section z))
     refl
     (ap (λ (zs : List ℤ). hs ++ zs ∷ []) (heights-section sections z []) ∙ sym (push_last-push hs (heights sections) z))
@@ -114,10 +155,14 @@ joined-section v ws front name sections links z =
     refl
 
 -- sections after others, the last of which is open
-behind : (before front : List SectionParts) (z : ℤ) (contours : List ContourParts) → before ++ with_section front z contours ≡ with_section (before ++ front) z contours
+behind : (before front : List SectionParts) (z : ℤ) (contours : List ContourParts)
+    → before ++ with_section front z contours ≡ with_section (before ++ front) z contours
 behind before front z contours = sym (append_assoc before front (record { z = z; contours = contours } ∷ []))
 
-joined-contour : (v : Version) (ws : List (ℤ × ℤ)) (objects : List ObjectParts) (name : List ℕ) (front : List SectionParts) (z : ℤ) (contours : List ContourParts) (title : List ℕ) (count : ℤ) → joined v ws objects name (with_section front z (with_contour contours title count [])) [] ≡ after (joined v ws objects name (with_section front z contours) []) (contour title count)
+joined-contour : (v : Version) (ws : List (ℤ × ℤ)) (objects : List ObjectParts) (name : List ℕ)
+    (front : List SectionParts) (z : ℤ) (contours : List ContourParts) (title : List ℕ) (count : ℤ)
+    → joined v ws objects name (with_section front z (with_contour contours title count [])) []
+    ≡ after (joined v ws objects name (with_section front z contours) []) (contour title count)
 joined-contour v ws objects name front z contours title count =
     let a = all_sections objects in
     let hs = map (λ (o : ObjectParts). heights o.sections) objects in
@@ -126,56 +171,99 @@ joined-contour v ws objects name front z contours title count =
     let had = sum_by (λ (c : ContourParts). asked c.count) contours in
     same_facts _ (after (joined v ws objects name (with_section front z contours) []) (contour title count))
     refl
-    (ap (λ (zs : List ℤ). hs ++ zs ∷ []) (heights-section front z (with_contour contours title count []) ∙ sym (heights-section front z contours)))
-    (ap names new ∙ names-contour (a ++ front) z contours title count [] ∙ ap (λ (ss : List SectionParts). names ss ++ title ∷ []) (sym old))
-    (ap counts new ∙ counts-contour (a ++ front) z contours title count [] ∙ ap (λ (ss : List SectionParts). counts ss ++ count ∷ []) (sym old))
-    (ap points new ∙ points-contour (a ++ front) z contours title count [] ∙ append-nil (points (with_section (a ++ front) z contours)) ∙ ap points (sym old))
+    (ap (λ (zs : List ℤ). hs ++ zs ∷ [])
+    (heights-section front z (with_contour contours title count []) ∙ sym (heights-section front z contours)))
+    (ap names new ∙ names-contour (a ++ front) z contours title count []
+    ∙ ap (λ (ss : List SectionParts). names ss ++ title ∷ []) (sym old))
+    (ap counts new ∙ counts-contour (a ++ front) z contours title count []
+    ∙ ap (λ (ss : List SectionParts). counts ss ++ count ∷ []) (sym old))
+    (ap points new ∙ points-contour (a ++ front) z contours title count []
+    ∙ append-nil (points (with_section (a ++ front) z contours)) ∙ ap points (sym old))
     refl
-    (ap (map section_vertices) new ∙ vertices-section (a ++ front) z (with_contour contours title count []) ∙ ap (λ (n : ℕ). map section_vertices (a ++ front) ++ n ∷ []) (vertices-contour contours title count [])
-    ∙ sym (add_last-push (map section_vertices (a ++ front)) had (asked count)) ∙ ap (λ (ns : List ℕ). add_last ns (asked count)) (sym (vertices-section (a ++ front) z contours) ∙ ap (map section_vertices) (sym old)))
+    (ap (map section_vertices) new ∙ vertices-section (a ++ front) z (with_contour contours title count [])
+    ∙ ap (λ (n : ℕ). map section_vertices (a ++ front) ++ n ∷ []) (vertices-contour contours title count [])
+    ∙ sym (add_last-push (map section_vertices (a ++ front)) had (asked count))
+    ∙ ap (λ (ns : List ℕ). add_last ns (asked count))
+    (sym (vertices-section (a ++ front) z contours) ∙ ap (map section_vertices) (sym old)))
     refl
 
-pub joined-points : (v : Version) (ws : List (ℤ × ℤ)) (objects : List ObjectParts) (name : List ℕ) (front : List SectionParts) (z : ℤ) (contours : List ContourParts) (title : List ℕ) (count : ℤ) (ps more : List Spot) → joined v ws objects name (with_section front z (with_contour contours title count (ps ++ more))) [] ≡ record (joined v ws objects name (with_section front z (with_contour contours title count ps)) []) { points = points (all_sections objects ++ with_section front z (with_contour contours title count ps)) ++ more }
+pub joined-points : (v : Version) (ws : List (ℤ × ℤ)) (objects : List ObjectParts) (name : List ℕ)
+    (front : List SectionParts) (z : ℤ) (contours : List ContourParts) (title : List ℕ) (count : ℤ)
+    (ps more : List Spot) → joined v ws objects name
+    (with_section front z (with_contour contours title count (ps ++ more))) []
+    ≡ record (joined v ws objects name (with_section front z (with_contour contours title count ps)) [])
+    { points = points (all_sections objects ++ with_section front z (with_contour contours title count ps)) ++ more }
 joined-points v ws objects name front z contours title count ps more =
     let a = all_sections objects in
     let hs = map (λ (o : ObjectParts). heights o.sections) objects in
     let new = behind a front z (with_contour contours title count (ps ++ more)) in
     let old = behind a front z (with_contour contours title count ps) in
-    same_facts _ (record (joined v ws objects name (with_section front z (with_contour contours title count ps)) []) { points = points (a ++ with_section front z (with_contour contours title count ps)) ++ more })
+    same_facts _ (record (joined v ws objects name (with_section front z (with_contour contours title count ps)) [])
+    { points = points (a ++ with_section front z (with_contour contours title count ps)) ++ more })
     refl
-    (ap (λ (zs : List ℤ). hs ++ zs ∷ []) (heights-section front z (with_contour contours title count (ps ++ more)) ∙ sym (heights-section front z (with_contour contours title count ps))))
-    (ap names new ∙ names-contour (a ++ front) z contours title count (ps ++ more) ∙ sym (names-contour (a ++ front) z contours title count ps) ∙ ap names (sym old))
-    (ap counts new ∙ counts-contour (a ++ front) z contours title count (ps ++ more) ∙ sym (counts-contour (a ++ front) z contours title count ps) ∙ ap counts (sym old))
-    (ap points new ∙ points-contour (a ++ front) z contours title count (ps ++ more) ∙ sym (append_assoc (points (with_section (a ++ front) z contours)) ps more)
-    ∙ ap (λ (xs : List Spot). xs ++ more) (sym (points-contour (a ++ front) z contours title count ps) ∙ ap points (sym old)))
+    (ap (λ (zs : List ℤ). hs ++ zs ∷ [])
+    (heights-section front z (with_contour contours title count (ps ++ more))
+    ∙ sym (heights-section front z (with_contour contours title count ps))))
+    (ap names new ∙ names-contour (a ++ front) z contours title count (ps ++ more)
+    ∙ sym (names-contour (a ++ front) z contours title count ps) ∙ ap names (sym old))
+    (ap counts new ∙ counts-contour (a ++ front) z contours title count (ps ++ more)
+    ∙ sym (counts-contour (a ++ front) z contours title count ps) ∙ ap counts (sym old))
+    (ap points new ∙ points-contour (a ++ front) z contours title count (ps ++ more)
+    ∙ sym (append_assoc (points (with_section (a ++ front) z contours)) ps more)
+    ∙ ap (λ (xs : List Spot). xs ++ more)
+    (sym (points-contour (a ++ front) z contours title count ps) ∙ ap points (sym old)))
     refl
-    (ap (map section_vertices) new ∙ vertices-section (a ++ front) z (with_contour contours title count (ps ++ more)) ∙ ap (λ (n : ℕ). map section_vertices (a ++ front) ++ n ∷ []) (vertices-contour contours title count (ps ++ more) ∙ sym (vertices-contour contours title count ps))
-    ∙ sym (vertices-section (a ++ front) z (with_contour contours title count ps)) ∙ ap (map section_vertices) (sym old))
+    (ap (map section_vertices) new ∙ vertices-section (a ++ front) z (with_contour contours title count (ps ++ more))
+    ∙ ap (λ (n : ℕ). map section_vertices (a ++ front) ++ n ∷ [])
+    (vertices-contour contours title count (ps ++ more) ∙ sym (vertices-contour contours title count ps))
+    ∙ sym (vertices-section (a ++ front) z (with_contour contours title count ps))
+    ∙ ap (map section_vertices) (sym old))
     refl
 
-joined-link : (v : Version) (ws : List (ℤ × ℤ)) (objects : List ObjectParts) (name : List ℕ) (sections : List SectionParts) (links : List LinkParts) (l : LinkParts) → joined v ws objects name sections (links ++ l ∷ []) ≡ after (joined v ws objects name sections links) (link l)
+joined-link : (v : Version) (ws : List (ℤ × ℤ)) (objects : List ObjectParts) (name : List ℕ)
+    (sections : List SectionParts) (links : List LinkParts) (l : LinkParts)
+    → joined v ws objects name sections (links ++ l ∷ []) ≡ after (joined v ws objects name sections links) (link l)
 joined-link v ws objects name sections links l =
-    same_facts _ (after (joined v ws objects name sections links) (link l)) refl refl refl refl refl refl refl (omega (arith, length-append links (l ∷ [])))
+    same_facts _ (after (joined v ws objects name sections links) (link l)) refl refl refl refl refl refl refl
+    (omega (arith, length-append links (l ∷ [])))
 
 abbrev pub joined_body : Version → List (ℤ × ℤ) → List ObjectParts → List ℕ → Body → Facts
 joined_body v ws front name body = joined v ws front name (sections_of body) (links_of body)
 
-joined-linked : (v : Version) (ws : List (ℤ × ℤ)) (front : List ObjectParts) (name : List ℕ) (rule : PairRule) (sections : List SectionParts) (links : List LinkParts) (l : LinkParts) (next : Body) → linked rule sections links l ≡ Some next → joined_body v ws front name next ≡ after (joined v ws front name sections links) (link l)
+joined-linked : (v : Version) (ws : List (ℤ × ℤ)) (front : List ObjectParts) (name : List ℕ) (rule : PairRule)
+    (sections : List SectionParts) (links : List LinkParts) (l : LinkParts) (next : Body)
+    → linked rule sections links l ≡ Some next
+    → joined_body v ws front name next ≡ after (joined v ws front name sections links) (link l)
 joined-linked v ws front name Overlap sections links l next e = absurd (cc)
-joined-linked v ws front name Links sections links l next e = ap (joined_body v ws front name) (sym (some_is e)) ∙ joined-link v ws front name sections links l
+joined-linked v ws front name Links sections links l next e = ap (joined_body v ws front name) (sym (some_is e))
+    ∙ joined-link v ws front name sections links l
 
-opened-joined : (v : Version) (ws : List (ℤ × ℤ)) (objects : List ObjectParts) (name : List ℕ) (front : List SectionParts) (z : ℤ) (contours : List ContourParts) (title : List ℕ) (count : ℤ) (ps : List Spot) (missing : ℕ) → joined_body v ws objects name (opened front z contours title count ps missing) ≡ joined v ws objects name (with_section front z (with_contour contours title count ps)) []
+opened-joined : (v : Version) (ws : List (ℤ × ℤ)) (objects : List ObjectParts) (name : List ℕ)
+    (front : List SectionParts) (z : ℤ) (contours : List ContourParts) (title : List ℕ) (count : ℤ) (ps : List Spot)
+    (missing : ℕ) → joined_body v ws objects name (opened front z contours title count ps missing)
+    ≡ joined v ws objects name (with_section front z (with_contour contours title count ps)) []
 opened-joined v ws objects name front z contours title count ps zero = refl
 opened-joined v ws objects name front z contours title count ps (suc missing) = refl
 
-pub joined-step : (v : Version) (ws : List (ℤ × ℤ)) (objects : List ObjectParts) (name : List ℕ) (rule : PairRule) (body : Body) (item : Item) (next : Body) → step rule body item ≡ Some next → joined_body v ws objects name next ≡ after (joined_body v ws objects name body) item
-joined-step v ws objects name rule bare (section z) next e = ap (joined_body v ws objects name) (sym (some_is e)) ∙ joined-section v ws objects name [] [] z
+pub joined-step : (v : Version) (ws : List (ℤ × ℤ)) (objects : List ObjectParts) (name : List ℕ) (rule : PairRule)
+    (body : Body) (item : Item) (next : Body) → step rule body item ≡ Some next
+    → joined_body v ws objects name next ≡ after (joined_body v ws objects name body) item
+joined-step v ws objects name rule bare (section z) next e = ap (joined_body v ws objects name) (sym (some_is e))
+    ∙ joined-section v ws objects name [] [] z
 joined-step v ws objects name rule bare (link l) next e = joined-linked v ws objects name rule [] [] l next e
-joined-step v ws objects name rule (in_section front z contours) (section y) next e = ap (joined_body v ws objects name) (sym (some_is e)) ∙ joined-section v ws objects name (with_section front z contours) [] y
+joined-step v ws objects name rule (in_section front z contours) (section y) next e =
+    ap (joined_body v ws objects name) (sym (some_is e))
+    ∙ joined-section v ws objects name (with_section front z contours) [] y
 joined-step v ws objects name rule (in_section front z contours) (contour title count) next e =
-    ap (joined_body v ws objects name) (sym (some_is e)) ∙ opened-joined v ws objects name front z contours title count [] (asked count) ∙ joined-contour v ws objects name front z contours title count
-joined-step v ws objects name rule (in_section front z contours) (link l) next e = joined-linked v ws objects name rule (with_section front z contours) [] l next e
+    ap (joined_body v ws objects name) (sym (some_is e))
+    ∙ opened-joined v ws objects name front z contours title count [] (asked count)
+    ∙ joined-contour v ws objects name front z contours title count
+joined-step v ws objects name rule (in_section front z contours) (link l) next e =
+    joined-linked v ws objects name rule (with_section front z contours) [] l next e
 joined-step v ws objects name rule (in_contour front z contours title count ps missing) (point p) next e =
-    ap (joined_body v ws objects name) (sym (some_is e)) ∙ opened-joined v ws objects name front z contours title count (ps ++ p ∷ []) missing ∙ joined-points v ws objects name front z contours title count ps (p ∷ [])
-joined-step v ws objects name rule (in_links sections links) (link l) next e = joined-linked v ws objects name rule sections links l next e
+    ap (joined_body v ws objects name) (sym (some_is e))
+    ∙ opened-joined v ws objects name front z contours title count (ps ++ p ∷ []) missing
+    ∙ joined-points v ws objects name front z contours title count ps (p ∷ [])
+joined-step v ws objects name rule (in_links sections links) (link l) next e =
+    joined-linked v ws objects name rule sections links l next e
 joined-step v ws objects name rule body item next e = absurd (cc)

@@ -25,16 +25,21 @@ use Rattle.section_core.proofs.PieceWalks.{nothing_keeps}
 use Rattle.section_core.proofs.Pieces.{accepted_pieces}
 
 -- pieces that break no law are walked to their end
-walk-whole : (f : Facts) (items : List Item) (rest : List Piece) → KeepsAll law_order f → KeepsAll law_order (facts_after f items) → walk f (map whole items ++ rest) ≡ walk (facts_after f items) rest
+walk-whole : (f : Facts) (items : List Item) (rest : List Piece) → KeepsAll law_order f
+    → KeepsAll law_order (facts_after f items) → walk f (map whole items ++ rest) ≡ walk (facts_after f items) rest
 walk-whole f [] rest k e = refl
 walk-whole f (item ∷ items) rest k e =
     let here = lawful-before (after f item) items e in
     let none = verdict_none (after f item) (first_broken f item) (verdict f item k) here in
-    ap (λ o. walked o (walk (after f item) (map whole items ++ rest))) none ∙ walk-whole (after f item) items rest here e
+    ap (λ o. walked o (walk (after f item) (map whole items ++ rest))) none
+    ∙ walk-whole (after f item) items rest here e
 
-walk-breaks : (f : Facts) (piece : Piece) (rest : List Piece) (law : Law) → KeepsAll law_order f → PieceBreaks f piece law → walk f (piece ∷ rest) ≡ Err law
+walk-breaks : (f : Facts) (piece : Piece) (rest : List Piece) (law : Law) → KeepsAll law_order f
+    → PieceBreaks f piece law → walk f (piece ∷ rest) ≡ Err law
 walk-breaks f askew rest law k b = ap (λ (l : Law). Err l) (sym b)
-walk-breaks f (whole item) rest law k b = ap (λ o. walked o (walk (after f item) rest)) (verdict_some (after f item) (first_broken f item) law (verdict f item k) b)
+walk-breaks f (whole item) rest law k b =
+    ap (λ o. walked o (walk (after f item) rest))
+    (verdict_some (after f item) (first_broken f item) law (verdict f item k) b)
 
 pub walk-fault : (ps : List Piece) (law : Law) → HasPieceFault ps law → walk nothing ps ≡ Err law
 walk-fault ps law h =
@@ -43,8 +48,11 @@ walk-fault ps law h =
 
 walk-lawful : (ps : List Piece) → ArePiecesLawful ps → (g : Facts) × (walk nothing ps ≡ Ok g)
 walk-lawful ps h =
-    let all : map whole h.items ++ [] ≡ map whole h.items = append-nil (map whole h.items) in
-    (facts_after nothing h.items, ap (walk nothing) (h.split ∙ sym all) ∙ walk-whole nothing h.items [] nothing_keeps h.lawful)
+    let all : map whole h.items ++ [] ≡ map whole h.items = append-nil (map whole h.items) in (
+      facts_after nothing h.items,
+      ap (walk nothing) (h.split ∙ sym all)
+          ∙ walk-whole nothing h.items [] nothing_keeps h.lawful,
+    )
 
 err_is : (a b : Law) (r : Result Facts Law) → r ≡ Err a → r ≡ Err b → a ≡ b
 err_is a b r e f = cc
@@ -63,15 +71,19 @@ abbrev pub PieceCause : CostParts → List Section → List Link → Fault → T
 PieceCause cost ss ls fault = (law : Law) × HasPieceFault (pieces_of cost ss ls) law × (fault ≡ fault_at (broken law) 0)
 
 abbrev pub FormCause : CostParts → PairRule → List Section → List Link → Fault → Type 0
-FormCause cost rule ss ls fault = (fault ≡ Form 0) × (rule ≡ Overlap) × (0 < length ls) × ArePiecesLawful (pieces_of cost ss ls)
+FormCause cost rule ss ls fault = (fault ≡ Form 0) × (rule ≡ Overlap) × (0 < length ls)
+    × ArePiecesLawful (pieces_of cost ss ls)
 
 abbrev pub NoneCause : CostParts → PairRule → List Section → List Link → Fault → Type 0
-NoneCause cost rule ss ls fault = (fault ≡ NoContours) × (contours_of (map section_parts ss) ≡ []) × (rule ≡ Overlap → ls ≡ []) × ArePiecesLawful (pieces_of cost ss ls)
+NoneCause cost rule ss ls fault = (fault ≡ NoContours) × (contours_of (map section_parts ss) ≡ [])
+    × (rule ≡ Overlap → ls ≡ []) × ArePiecesLawful (pieces_of cost ss ls)
 
 abbrev pub Cause : CostParts → PairRule → List Section → List Link → Fault → Type 0
-Cause cost rule ss ls fault = (fault ≡ NoMemory) ⊎ (PieceCause cost ss ls fault ⊎ (FormCause cost rule ss ls fault ⊎ NoneCause cost rule ss ls fault))
+Cause cost rule ss ls fault = (fault ≡ NoMemory)
+    ⊎ (PieceCause cost ss ls fault ⊎ (FormCause cost rule ss ls fault ⊎ NoneCause cost rule ss ls fault))
 
-pub cause : (cost : CostParts) (rule : PairRule) (ss : List Section) (ls : List Link) (fault : Fault) → IsMakeFault cost rule ss ls fault → Cause cost rule ss ls fault
+pub cause : (cost : CostParts) (rule : PairRule) (ss : List Section) (ls : List Link) (fault : Fault)
+    → IsMakeFault cost rule ss ls fault → Cause cost rule ss ls fault
 cause cost rule ss ls NoMemory h = inl refl
 cause cost rule ss ls (Form n) h = inr (inr (inl (ap (λ (k : ℕ). Form k) h.0, h.1, h.2, h.3)))
 cause cost rule ss ls NoContours h = inr (inr (inr (refl, h.0, h.1, h.2)))
@@ -89,14 +101,21 @@ pub not_empty : (ls : List Link) → 0 < length ls → ls ≡ [] → ⊥
 not_empty ls h e = omega (arith, h, ap length e)
 
 -- two faults of the same parts are equal
-same_cause : (cost : CostParts) (rule : PairRule) (ss : List Section) (ls : List Link) (a b : Fault) → Cause cost rule ss ls a → Cause cost rule ss ls b → (a ≡ NoMemory) ⊎ ((b ≡ NoMemory) ⊎ (a ≡ b))
+same_cause : (cost : CostParts) (rule : PairRule) (ss : List Section) (ls : List Link) (a b : Fault)
+    → Cause cost rule ss ls a → Cause cost rule ss ls b → (a ≡ NoMemory) ⊎ ((b ≡ NoMemory) ⊎ (a ≡ b))
 same_cause cost rule ss ls a b (inl e) k = inl e
 same_cause cost rule ss ls a b h (inl e) = inr (inl e)
-same_cause cost rule ss ls a b (inr (inl h)) (inr (inl k)) = inr (inr (h.2 ∙ ap (λ (l : Law). fault_at (broken l) 0) (law_once (pieces_of cost ss ls) h.0 k.0 h.1 k.1) ∙ sym k.2))
-same_cause cost rule ss ls a b (inr (inl h)) (inr (inr (inl k))) = absurd (never_both (pieces_of cost ss ls) h.0 h.1 k.3)
-same_cause cost rule ss ls a b (inr (inl h)) (inr (inr (inr k))) = absurd (never_both (pieces_of cost ss ls) h.0 h.1 k.3)
-same_cause cost rule ss ls a b (inr (inr (inl h))) (inr (inl k)) = absurd (never_both (pieces_of cost ss ls) k.0 k.1 h.3)
-same_cause cost rule ss ls a b (inr (inr (inr h))) (inr (inl k)) = absurd (never_both (pieces_of cost ss ls) k.0 k.1 h.3)
+same_cause cost rule ss ls a b (inr (inl h)) (inr (inl k)) =
+    inr (inr (h.2 ∙ ap (λ (l : Law). fault_at (broken l) 0) (law_once (pieces_of cost ss ls) h.0 k.0 h.1 k.1)
+    ∙ sym k.2))
+same_cause cost rule ss ls a b (inr (inl h)) (inr (inr (inl k))) =
+    absurd (never_both (pieces_of cost ss ls) h.0 h.1 k.3)
+same_cause cost rule ss ls a b (inr (inl h)) (inr (inr (inr k))) =
+    absurd (never_both (pieces_of cost ss ls) h.0 h.1 k.3)
+same_cause cost rule ss ls a b (inr (inr (inl h))) (inr (inl k)) =
+    absurd (never_both (pieces_of cost ss ls) k.0 k.1 h.3)
+same_cause cost rule ss ls a b (inr (inr (inr h))) (inr (inl k)) =
+    absurd (never_both (pieces_of cost ss ls) k.0 k.1 h.3)
 same_cause cost rule ss ls a b (inr (inr (inl h))) (inr (inr (inl k))) = inr (inr (h.0 ∙ sym k.0))
 same_cause cost rule ss ls a b (inr (inr (inl h))) (inr (inr (inr k))) = absurd (not_empty ls h.2 (k.2 h.1))
 same_cause cost rule ss ls a b (inr (inr (inr h))) (inr (inr (inl k))) = absurd (not_empty ls k.2 (h.2 k.1))
@@ -107,14 +126,20 @@ linked_not Overlap ls h e lt = omega (arith, lt, length-map ls link_parts, ap le
 linked_not Links ls h e lt = absurd (cc)
 
 -- accepted parts have none
-fine_not : (cost : CostParts) (rule : PairRule) (ss : List Section) (ls : List Link) (fault : Fault) → IsAccepted (ended_parts cost rule ss ls) → AreFlat ss → Cause cost rule ss ls fault → fault ≡ NoMemory
+fine_not : (cost : CostParts) (rule : PairRule) (ss : List Section) (ls : List Link) (fault : Fault)
+    → IsAccepted (ended_parts cost rule ss ls) → AreFlat ss → Cause cost rule ss ls fault → fault ≡ NoMemory
 fine_not cost rule ss ls fault a flat (inl e) = e
-fine_not cost rule ss ls fault a flat (inr (inl k)) = absurd (never_both (pieces_of cost ss ls) k.0 k.1 (accepted_pieces cost rule ss ls a flat))
+fine_not cost rule ss ls fault a flat (inr (inl k)) =
+    absurd (never_both (pieces_of cost ss ls) k.0 k.1 (accepted_pieces cost rule ss ls a flat))
 fine_not cost rule ss ls fault a flat (inr (inr (inl k))) = absurd (linked_not rule ls a.are_parts.links k.1 k.2)
 fine_not cost rule ss ls fault a flat (inr (inr (inr k))) = absurd (omega (arith, a.contour, ap length k.1))
 
-pub refuses : (cost : CostParts) (rule : PairRule) (ss : List Section) (ls : List Link) (r : Result Parts Fault) (fault : Fault) → IfOk r (λ _. IsAccepted (ended_parts cost rule ss ls) × AreFlat ss) → IfErr r (IsMakeFault cost rule ss ls) → IsMakeFault cost rule ss ls fault → Refuses fault r
-refuses cost rule ss ls (Ok v) fault fine told has = subst (λ (f : Fault). Refuses f (Ok v)) (sym (fine_not cost rule ss ls fault fine.0 fine.1 (cause cost rule ss ls fault has))) tt
+pub refuses : (cost : CostParts) (rule : PairRule) (ss : List Section) (ls : List Link) (r : Result Parts Fault)
+    (fault : Fault) → IfOk r (λ _. IsAccepted (ended_parts cost rule ss ls) × AreFlat ss)
+    → IfErr r (IsMakeFault cost rule ss ls) → IsMakeFault cost rule ss ls fault → Refuses fault r
+refuses cost rule ss ls (Ok v) fault fine told has =
+    subst (λ (f : Fault). Refuses f (Ok v))
+    (sym (fine_not cost rule ss ls fault fine.0 fine.1 (cause cost rule ss ls fault has))) tt
 refuses cost rule ss ls (Err a) fault fine told has =
     elim (same_cause cost rule ss ls a fault (cause cost rule ss ls a told) (cause cost rule ss ls fault has)) [
       | inl e ↦ subst (λ (f : Fault). Refuses {T = Parts} fault (Err f)) (sym e) (refuses_memory fault)
@@ -124,6 +149,8 @@ refuses cost rule ss ls (Err a) fault fine told has =
       ]
     ]
 
-pub accepts : (cost : CostParts) (rule : PairRule) (ss : List Section) (ls : List Link) (r : Result Parts Fault) → IfErr r (IsMakeFault cost rule ss ls) → IsAccepted (ended_parts cost rule ss ls) → AreFlat ss → Accepts r
+pub accepts : (cost : CostParts) (rule : PairRule) (ss : List Section) (ls : List Link) (r : Result Parts Fault)
+    → IfErr r (IsMakeFault cost rule ss ls) → IsAccepted (ended_parts cost rule ss ls) → AreFlat ss → Accepts r
 accepts cost rule ss ls (Ok v) told a flat = tt
-accepts cost rule ss ls (Err fault) told a flat = fine_not cost rule ss ls fault a flat (cause cost rule ss ls fault told)
+accepts cost rule ss ls (Err fault) told a flat =
+    fine_not cost rule ss ls fault a flat (cause cost rule ss ls fault told)

@@ -20,8 +20,19 @@ keeps-take-le (suc j) zero laws f le h = absurd (omega arith)
 keeps-take-le (suc j) (suc k) [] f le h = tt
 keeps-take-le (suc j) (suc k) (law ∷ laws) f le h = (h.0, keeps-take-le j k laws f (omega arith) h.1)
 
-fewer : (v : Version) (laws less : List Law) (lines : List Line) → ((f : Facts) → KeepsAll laws f → KeepsAll less f) → Begins v laws lines → Begins v less lines
-fewer v laws less lines w b = record { parts = b.parts; is_file = b.is_file; known = b.known; keeps = w (facts b.parts) b.keeps; front = b.front; rest = b.rest; split = b.split; match = b.match }
+fewer : (v : Version) (laws less : List Law) (lines : List Line) → ((f : Facts) → KeepsAll laws f → KeepsAll less f)
+    → Begins v laws lines → Begins v less lines
+fewer v laws less lines w b = record {
+  parts = b.parts;
+  is_file = b.is_file;
+  known = b.known;
+  keeps = w (facts b.parts) b.keeps;
+  front = b.front;
+  rest =
+      b.rest;
+  split = b.split;
+  match = b.match;
+}
 
 -- a line breaks in only one way
 pub breach_unique : (w : Version) (lines : List Line) (a b : Breach) → Breaks w lines a → Breaks w lines b → a ≡ b
@@ -32,12 +43,15 @@ breach_unique w lines (broken one) (broken other) h k =
     elim (cases_order h.0 k.0) [
       | inl e ↦ ap broken (some_is (sym h.1 ∙ ap (slice_get law_order) e ∙ k.1))
       | inr c ↦ elim c [
-        | inl lt ↦ absurd (h.3 (fewer w (take k.0 law_order) (take (suc h.0) law_order) lines (λ f. keeps-take-le (suc h.0) k.0 law_order f (omega arith)) k.2))
-        | inr gt ↦ absurd (k.3 (fewer w (take h.0 law_order) (take (suc k.0) law_order) lines (λ f. keeps-take-le (suc k.0) h.0 law_order f (omega arith)) h.2))
+        | inl lt ↦ absurd (h.3 (fewer w (take k.0 law_order) (take (suc h.0) law_order) lines
+            (λ f. keeps-take-le (suc h.0) k.0 law_order f (omega arith)) k.2))
+        | inr gt ↦ absurd (k.3 (fewer w (take h.0 law_order) (take (suc k.0) law_order) lines
+            (λ f. keeps-take-le (suc k.0) h.0 law_order f (omega arith)) h.2))
       ]
     ]
 
 -- a line that breaks nothing does not break
 pub breaks_not : (w : Version) (lines : List Line) (b : Breach) → Begins w law_order lines → Breaks w lines b → ⊥
 breaks_not w lines form begins h = h (fewer w law_order [] lines (λ f _. tt) begins)
-breaks_not w lines (broken law) begins h = h.3 (fewer w law_order (take (suc h.0) law_order) lines (λ f. keeps-take (suc h.0) law_order f) begins)
+breaks_not w lines (broken law) begins h =
+    h.3 (fewer w law_order (take (suc h.0) law_order) lines (λ f. keeps-take (suc h.0) law_order f) begins)

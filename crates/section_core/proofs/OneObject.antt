@@ -21,17 +21,48 @@ use Rattle.section_core.proofs.JoinedFacts.{same_facts}
 
 -- the facts of one object
 abbrev one_facts : Parts → Facts
-one_facts S = record { objects = []; heights = heights S.sections ∷ []; names = names S.sections; counts = counts S.sections; points = points S.sections; weights = weights S.cost; sums = map section_vertices S.sections; links = length S.links }
+one_facts S = record {
+  objects = [];
+  heights = heights S.sections ∷ [];
+  names = names S.sections;
+  counts =
+      counts S.sections;
+  points = points S.sections;
+  weights = weights S.cost;
+  sums = map section_vertices S.sections;
+  links = length S.links;
+}
 
 pub facts-one : (S : Parts) → facts (as_file S) ≡ one_facts S
 facts-one S =
     let e = append-nil S.sections in
-    same_facts (facts (as_file S)) (one_facts S) refl refl (ap names e) (ap counts e) (ap points e) refl (ap (map section_vertices) e) (omega arith)
+    same_facts (facts (as_file S)) (one_facts S) refl refl (ap names e) (ap counts e) (ap points e) refl
+    (ap (map section_vertices) e) (omega arith)
 
 pub lawful-to : (S : Parts) → IsLawful S → IsLawfulFile (as_file S)
 lawful-to S l =
-    subst (KeepsAll law_order) (sym (facts-one S))
-    (((l.in_range, tt), l.spots, l.weighted), ((l.apart, tt), ((l.rising, tt), (l.counted, (l.small, (l.few_vertices, (l.few_contours, (omega (arith, l.few_sections), (l.few_links, (omega arith, tt))))))))))
+    subst (KeepsAll law_order) (sym (facts-one S)) (
+      ((l.in_range, tt), l.spots, l.weighted),
+      (
+        (l.apart, tt),
+        (
+          (l.rising, tt),
+          (
+            l.counted,
+            (
+              l.small,
+              (
+                l.few_vertices,
+                (
+                  l.few_contours,
+                  (omega (arith, l.few_sections), (l.few_links, (omega arith, tt))),
+                ),
+              ),
+            ),
+          ),
+        ),
+      ),
+    )
 
 lawful-one : (S : Parts) → KeepsAll law_order (one_facts S) → IsLawful S
 lawful-one S l = record {
@@ -54,21 +85,29 @@ lawful-from S k = lawful-one S (subst (KeepsAll law_order) (facts-one S) k)
 pub file-to : (S : Parts) → IsParts S → IsFile (as_file S)
 file-to S p = record {
   objects = (_, refl, refl);
-  contours = subst (λ (ss : List SectionParts). AllByRecursion IsCountedContour (contours_of ss)) (sym (append-nil S.sections)) p.contours;
+  contours = subst (λ (ss : List SectionParts). AllByRecursion IsCountedContour (contours_of ss))
+      (sym (append-nil S.sections)) p.contours;
   links = (p.links, tt);
 }
 
 pub file-from : (S : Parts) → IsFile (as_file S) → IsParts S
 file-from S f = record {
-  contours = subst (λ (ss : List SectionParts). AllByRecursion IsCountedContour (contours_of ss)) (append-nil S.sections) f.contours;
+  contours = subst (λ (ss : List SectionParts). AllByRecursion IsCountedContour (contours_of ss))
+      (append-nil S.sections) f.contours;
   links = f.links.0;
 }
 
 pub filled-to : (S : Parts) → HasContour S → is_filled (as_file S) ≡ true
-filled-to S h = let t : nat_lt 0 (length (contours_of S.sections)) ≡ true = grind (arith, nat_tests) in ap (λ (b : Bool). b && true) t
+filled-to S h = let t : nat_lt 0 (length (contours_of S.sections)) ≡ true = grind (arith, nat_tests) in
+    ap (λ (b : Bool). b && true) t
 
 pub accepted-to : (S : Parts) → IsAccepted S → IsAcceptedFile (as_file S)
-accepted-to S a = record { is_file = file-to S a.are_parts; lawful = lawful-to S a.lawful; filled = filled-to S a.contour }
+accepted-to S a = record {
+  is_file = file-to S a.are_parts;
+  lawful = lawful-to S a.lawful;
+  filled =
+      filled-to S a.contour;
+}
 
 -- an object as parts under the rules of its text
 abbrev pub parts_in : CostParts → PairRule → ObjectParts → Parts
@@ -99,32 +138,42 @@ contours-split-is : (ss ts : List SectionParts) → contours_of (ss ++ ts) ≡ c
 contours-split-is ss ts = flat_map-append (λ (s : SectionParts). s.contours) ss ts
 
 names-split : (ss ts : List SectionParts) → names (ss ++ ts) ≡ names ss ++ names ts
-names-split ss ts = ap (map (λ (c : ContourParts). c.name)) (contours-split-is ss ts) ∙ map-append (λ (c : ContourParts). c.name) (contours_of ss) (contours_of ts)
+names-split ss ts = ap (map (λ (c : ContourParts). c.name)) (contours-split-is ss ts)
+    ∙ map-append (λ (c : ContourParts). c.name) (contours_of ss) (contours_of ts)
 
 counts-split : (ss ts : List SectionParts) → counts (ss ++ ts) ≡ counts ss ++ counts ts
-counts-split ss ts = ap (map (λ (c : ContourParts). c.count)) (contours-split-is ss ts) ∙ map-append (λ (c : ContourParts). c.count) (contours_of ss) (contours_of ts)
+counts-split ss ts = ap (map (λ (c : ContourParts). c.count)) (contours-split-is ss ts)
+    ∙ map-append (λ (c : ContourParts). c.count) (contours_of ss) (contours_of ts)
 
 points-split : (ss ts : List SectionParts) → points (ss ++ ts) ≡ points ss ++ points ts
-points-split ss ts = ap (flat_map (λ (c : ContourParts). c.points)) (contours-split-is ss ts) ∙ flat_map-append (λ (c : ContourParts). c.points) (contours_of ss) (contours_of ts)
+points-split ss ts = ap (flat_map (λ (c : ContourParts). c.points)) (contours-split-is ss ts)
+    ∙ flat_map-append (λ (c : ContourParts). c.points) (contours_of ss) (contours_of ts)
 
 record Parted (cost : CostParts) (rule : PairRule) (o : ObjectParts) (os : List ObjectParts) : Type 0 where
   here : IsLawful (parts_in cost rule o)
   is : IsParts (parts_in cost rule o)
   rest : AreGood cost rule os
 
-parted : (cost : CostParts) (rule : PairRule) (o : ObjectParts) (os : List ObjectParts) → AreGood cost rule (o ∷ os) → Parted cost rule o os
+parted : (cost : CostParts) (rule : PairRule) (o : ObjectParts) (os : List ObjectParts) → AreGood cost rule (o ∷ os)
+    → Parted cost rule o os
 parted cost rule o os g =
     let ss = o.sections in
     let ts = all_sections os in
     let spots = subst (AllByRecursion IsSpot) (points-split ss ts) g.spots in
     let apart = subst AreDistinct (names-split ss ts) g.apart in
     let counted = subst (AllByRecursion IsPointCount) (counts-split ss ts) g.counted in
-    let small = subst (AllByRecursion (λ (n : ℕ). n ≤ MAX_SECTION_VERTICES)) (map-append section_vertices ss ts) g.small in
-    let total : sum_by asked (counts (ss ++ ts)) ≡ sum_by asked (counts ss) + sum_by asked (counts ts) = ap (sum_by asked) (counts-split ss ts) ∙ sum_by-append asked (counts ss) (counts ts) in
-    let many : length (names (ss ++ ts)) ≡ length (names ss) + length (names ts) = ap length (names-split ss ts) ∙ length-append (names ss) (names ts) in
+    let small = subst (AllByRecursion (λ (n : ℕ). n ≤ MAX_SECTION_VERTICES)) (map-append section_vertices ss ts) g.small
+    in
+    let total : sum_by asked (counts (ss ++ ts)) ≡ sum_by asked (counts ss) + sum_by asked (counts ts) =
+    ap (sum_by asked) (counts-split ss ts) ∙ sum_by-append asked (counts ss) (counts ts) in
+    let many : length (names (ss ++ ts)) ≡ length (names ss) + length (names ts) = ap length (names-split ss ts)
+    ∙ length-append (names ss) (names ts) in
     let hs = map (λ (p : ObjectParts). heights p.sections) os in
-    let tall : sum_by length (heights ss ∷ hs) ≡ length (heights ss) + sum_by length hs = omega (arith, sum_by-append {X = List ℤ} length (heights ss ∷ []) hs) in
-    let linked : sum_by (λ (p : ObjectParts). length p.links) (o ∷ os) ≡ length o.links + sum_by (λ (p : ObjectParts). length p.links) os = omega (arith, sum_by-append (λ (p : ObjectParts). length p.links) (o ∷ []) os) in
+    let tall : sum_by length (heights ss ∷ hs) ≡ length (heights ss) + sum_by length hs =
+    omega (arith, sum_by-append {X = List ℤ} length (heights ss ∷ []) hs) in
+    let linked : sum_by (λ (p : ObjectParts). length p.links) (o ∷ os) ≡ length o.links
+    + sum_by (λ (p : ObjectParts). length p.links) os =
+    omega (arith, sum_by-append (λ (p : ObjectParts). length p.links) (o ∷ []) os) in
     let split = contours-split ss ts g.contours in
     record {
       here = record {
@@ -134,7 +183,8 @@ parted cost rule o os g =
         apart = distinct-left (names ss) (names ts) apart;
         rising = g.rise.0;
         counted = all_front IsPointCount (counts ss) (counts ts) counted;
-        small = all_front (λ (n : ℕ). n ≤ MAX_SECTION_VERTICES) (map section_vertices ss) (map section_vertices ts) small;
+        small = all_front (λ (n : ℕ). n ≤ MAX_SECTION_VERTICES) (map section_vertices ss) (map section_vertices ts)
+            small;
         few_vertices = omega (arith, g.vertices, total);
         few_contours = omega (arith, g.few_contours, many);
         few_sections = omega (arith, g.few_sections, tall);
@@ -148,7 +198,8 @@ parted cost rule o os g =
         apart = distinct-right (names ss) (names ts) apart;
         rise = g.rise.1;
         counted = all_rest IsPointCount (counts ss) (counts ts) counted;
-        small = all_rest (λ (n : ℕ). n ≤ MAX_SECTION_VERTICES) (map section_vertices ss) (map section_vertices ts) small;
+        small = all_rest (λ (n : ℕ). n ≤ MAX_SECTION_VERTICES) (map section_vertices ss) (map section_vertices ts)
+            small;
         vertices = omega (arith, g.vertices, total);
         few_contours = omega (arith, g.few_contours, many);
         few_sections = omega (arith, g.few_sections, tall);
@@ -158,16 +209,20 @@ parted cost rule o os g =
       };
     }
 
-each_accepted : (cost : CostParts) (rule : PairRule) (os : List ObjectParts) → AreGood cost rule os → list_all has_contour os ≡ true → AllByRecursion (λ (o : ObjectParts). IsAccepted (parts_in cost rule o)) os
+each_accepted : (cost : CostParts) (rule : PairRule) (os : List ObjectParts) → AreGood cost rule os
+    → list_all has_contour os ≡ true → AllByRecursion (λ (o : ObjectParts). IsAccepted (parts_in cost rule o)) os
 each_accepted cost rule [] g e = tt
 each_accepted cost rule (o ∷ os) g e =
     let p = parted cost rule o os g in
     let has = and_parts (has_contour o) (list_all has_contour os) e in
-    let t : nat_lt 0 (length (contours_of o.sections)) ≡ true = has.0 in
-    (record { are_parts = p.is; lawful = p.here; contour = grind (arith, nat_tests) }, each_accepted cost rule os p.rest has.1)
+    let t : nat_lt 0 (length (contours_of o.sections)) ≡ true = has.0 in (
+      record { are_parts = p.is; lawful = p.here; contour = grind (arith, nat_tests) },
+      each_accepted cost rule os p.rest has.1,
+    )
 
 -- each object of an accepted text is accepted
-pub objects_accepted : (F : FileParts) → IsFile F → IsLawfulFile F → is_filled F ≡ true → AllByRecursion (λ (o : ObjectParts). IsAccepted (parts_in F.cost F.rule o)) F.objects
+pub objects_accepted : (F : FileParts) → IsFile F → IsLawfulFile F → is_filled F ≡ true
+    → AllByRecursion (λ (o : ObjectParts). IsAccepted (parts_in F.cost F.rule o)) F.objects
 objects_accepted F f l e =
     each_accepted F.cost F.rule F.objects
     (record {

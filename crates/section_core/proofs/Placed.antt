@@ -27,7 +27,8 @@ spots_placed z (p ∷ ps) = ap (λ (qs : List Spot). spot_at p ∷ qs) (spots_pl
 abbrev pub of_spots : List ℕ → ℕ → List Spot → ContourParts
 of_spots name n spots = record { name = name; count = pos n; points = spots }
 
-pub placed_parts : (c : Contour) (name : List ℕ) (z : ℤ) (ps : List Place) → c.name ≡ name → c.points.items ≡ map (point_at z) ps → contour_parts c ≡ of_spots name (length ps) (map spot_at ps)
+pub placed_parts : (c : Contour) (name : List ℕ) (z : ℤ) (ps : List Place) → c.name ≡ name
+    → c.points.items ≡ map (point_at z) ps → contour_parts c ≡ of_spots name (length ps) (map spot_at ps)
 placed_parts c name z ps n e =
     ap (λ (m : List ℕ). of_spots m (length c.points.items) (map spot_of c.points.items)) n
     ∙ ap₂ (of_spots name) (ap length e ∙ length-map ps (point_at z)) (ap (map spot_of) e ∙ spots_placed z ps)
@@ -40,4 +41,5 @@ pub placed_level : (c : Contour) (z : ℤ) (ps : List Place) → c.points.items 
 placed_level c z ps e = subst (AllByRecursion (λ (p : Point). p.z ≡ z)) (sym e) (all_level z ps)
 
 pub flat_of : (ss : List Section) → All IsLevelSection ss → AreFlat ss
-flat_of ss h = all_weaker IsLevelSection IsFlat ss (λ s k. recursion_from_All (IsAtHeight s.z) s.contours.items k) (recursion_from_All IsLevelSection ss h)
+flat_of ss h = all_weaker IsLevelSection IsFlat ss (λ s k. recursion_from_All (IsAtHeight s.z) s.contours.items k)
+    (recursion_from_All IsLevelSection ss h)

@@ -14,10 +14,12 @@ use Rattle.fku_types.proofs.TruthLaws.{int_le_is}
 
 -- the weights of a mix, by their bounds
 weight_is : (a : ℕ) → is_weight (pos a) ≡ true → a ≤ 1000
-weight_is a e = let p = and_parts (int_le (pos 0) (pos a)) (int_le (pos a) (pos 1000)) e in let k : pos a ≤ℤ pos 1000 = int_le_is _ _ p.1 in omega (arith, ints)
+weight_is a e = let p = and_parts (int_le (pos 0) (pos a)) (int_le (pos a) (pos 1000)) e in let k : pos a ≤ℤ pos 1000 =
+    int_le_is _ _ p.1 in omega (arith, ints)
 
 weight_test : (a : ℕ) → a ≤ 1000 → is_weight (pos a) ≡ true
-weight_test a h = and_from (int_le (pos 0) (pos a)) (int_le (pos a) (pos 1000)) (le_test (pos 0) (pos a) (omega (arith, ints))) (le_test (pos a) (pos 1000) (omega (arith, ints, h)))
+weight_test a h = and_from (int_le (pos 0) (pos a)) (int_le (pos a) (pos 1000))
+    (le_test (pos 0) (pos a) (omega (arith, ints))) (le_test (pos a) (pos 1000) (omega (arith, ints, h)))
 
 both_zero : (a b : ℕ) → (int_eq (pos a) (pos 0) && int_eq (pos b) (pos 0)) ≡ true → a + b ≡ 0
 both_zero a b e =
@@ -34,7 +36,8 @@ zero_both a b e =
 
 weights_are : (a b : ℤ) → are_weights a b ≡ true → AreWeights a b
 weights_are (pos a) (pos b) e =
-    let p = and_parts (is_weight (pos a) && is_weight (pos b)) (not (int_eq (pos a) (pos 0) && int_eq (pos b) (pos 0))) e in
+    let p = and_parts (is_weight (pos a) && is_weight (pos b)) (not (int_eq (pos a) (pos 0) && int_eq (pos b) (pos 0)))
+    e in
     let q = and_parts (is_weight (pos a)) (is_weight (pos b)) p.0 in
     (weight_is a q.0, weight_is b q.1, some_weight a b (not-true _ p.1))
   where

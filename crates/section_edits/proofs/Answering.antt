@@ -22,7 +22,8 @@ use Rattle.section_edits.specs.Refusals.{first_of, own_tests, IsLateRefusal, IsO
 use Rattle.section_edits.specs.LateTests.{has_short_contours, is_small}
 
 -- the refusal is returned
-pub told : {T : Type 0} (Is : Option EditFault → Type 0) (fault : EditFault) (P : T → Type 0) → Is (Some fault) → AnswersOrRefuses Is (Err fault) P
+pub told : {T : Type 0} (Is : Option EditFault → Type 0) (fault : EditFault) (P : T → Type 0) → Is (Some fault)
+    → AnswersOrRefuses Is (Err fault) P
 told Is EditForm P h = h
 told Is (NoContour name) P h = h
 told Is (NoSection z) P h = h
@@ -34,7 +35,9 @@ told Is (Found fault) P h = h
 told Is NoMemory P h = tt
 
 -- the same refusals in other words
-pub answers_as : {T : Type 0} (Is Are : Option EditFault → Type 0) (r : Result T EditFault) (P Q : T → Type 0) → ((o : Option EditFault) → Is o → Are o) → ((v : T) → P v → Q v) → AnswersOrRefuses Is r P → AnswersOrRefuses Are r Q
+pub answers_as : {T : Type 0} (Is Are : Option EditFault → Type 0) (r : Result T EditFault) (P Q : T → Type 0)
+    → ((o : Option EditFault) → Is o → Are o) → ((v : T) → P v → Q v) → AnswersOrRefuses Is r P
+    → AnswersOrRefuses Are r Q
 answers_as Is Are (Ok v) P Q f g h = (f None h.0, g v h.1)
 answers_as Is Are (Err EditForm) P Q f g h = f (Some EditForm) h
 answers_as Is Are (Err (NoContour name)) P Q f g h = f (Some (NoContour name)) h
@@ -47,21 +50,26 @@ answers_as Is Are (Err (Found fault)) P Q f g h = f (Some (Found fault)) h
 answers_as Is Are (Err NoMemory) P Q f g h = tt
 
 -- a refusal by the edit itself
-pub by_own : (S : Parts) (e : Edit) (fault : EditFault) → first_of (own_tests S e) ≡ Some fault → IsRefusal S e (Some fault)
+pub by_own : (S : Parts) (e : Edit) (fault : EditFault) → first_of (own_tests S e) ≡ Some fault
+    → IsRefusal S e (Some fault)
 by_own S e fault own = subst (λ (o : Option EditFault). IsOwnOr o (changed S e) (Some fault)) (sym own) refl
 
 -- a refusal by the parts after it
-pub by_late : (S : Parts) (e : Edit) (T : Parts) (r : Result Parts EditFault) → first_of (own_tests S e) ≡ None → T ≡ changed S e → AnswersOrRefuses (IsLateRefusal T) r (λ s. s ≡ T) → AnswersOrRefuses (IsRefusal S e) r (λ s. s ≡ changed S e)
+pub by_late : (S : Parts) (e : Edit) (T : Parts) (r : Result Parts EditFault) → first_of (own_tests S e) ≡ None
+    → T ≡ changed S e → AnswersOrRefuses (IsLateRefusal T) r (λ s. s ≡ T)
+    → AnswersOrRefuses (IsRefusal S e) r (λ s. s ≡ changed S e)
 by_late S e T r own same h =
     answers_as (IsLateRefusal T) (IsRefusal S e) r (λ s. s ≡ T) (λ s. s ≡ changed S e)
-    (λ o k. subst (λ (p : Option EditFault). IsOwnOr p (changed S e) o) (sym own) (subst (λ (U : Parts). IsLateRefusal U o) same k)) (λ s k. k ∙ same) h
+    (λ o k. subst (λ (p : Option EditFault). IsOwnOr p (changed S e) o) (sym own)
+    (subst (λ (U : Parts). IsLateRefusal U o) same k)) (λ s k. k ∙ same) h
 
 -- the edit has no refusal: its own tests have none, and the parts after it have none
 pub record Passed (S : Parts) (e : Edit) : Type 0 where
   pub own : first_of (own_tests S e) ≡ None
   pub late : IsLateRefusal (changed S e) None
 
-passed_by : (S : Parts) (e : Edit) (o : Option EditFault) → first_of (own_tests S e) ≡ o → IsOwnOr o (changed S e) None → Passed S e
+passed_by : (S : Parts) (e : Edit) (o : Option EditFault) → first_of (own_tests S e) ≡ o → IsOwnOr o (changed S e) None
+    → Passed S e
 passed_by S e None own h = record { own = own; late = h }
 passed_by S e (Some fault) own h = absurd (cc)
 
@@ -75,14 +83,18 @@ one_late S None (Some (Limit limit)) h k = absurd (breaks_none (within limit) (f
 one_late S None (Some (Found NoContours)) h k = absurd (omega (arith, h.1, ap length k.1))
 one_late S None (Some fault) h k = absurd k
 one_late S (Some (Limit limit)) None h k = absurd (breaks_none (within limit) (facts (as_file S)) (lawful-to S k.0) h)
-one_late S (Some (Limit limit)) (Some (Limit other)) h k = ap (λ (l : LimitName). Some (Limit l)) (same_limit limit other (verdict_some (facts (as_file S)) (Some (within limit)) (within other) h k))
+one_late S (Some (Limit limit)) (Some (Limit other)) h k =
+    ap (λ (l : LimitName). Some (Limit l))
+    (same_limit limit other (verdict_some (facts (as_file S)) (Some (within limit)) (within other) h k))
   where
     same_limit : (l m : LimitName) → Some (within l) ≡ Some (within m) → l ≡ m
     same_limit l m e = cc
-one_late S (Some (Limit limit)) (Some (Found NoContours)) h k = absurd (breaks_none (within limit) (facts (as_file S)) (lawful-to S k.0) h)
+one_late S (Some (Limit limit)) (Some (Found NoContours)) h k =
+    absurd (breaks_none (within limit) (facts (as_file S)) (lawful-to S k.0) h)
 one_late S (Some (Limit limit)) (Some fault) h k = absurd k
 one_late S (Some (Found NoContours)) None h k = absurd (omega (arith, k.1, ap length h.1))
-one_late S (Some (Found NoContours)) (Some (Limit limit)) h k = absurd (breaks_none (within limit) (facts (as_file S)) (lawful-to S h.0) k)
+one_late S (Some (Found NoContours)) (Some (Limit limit)) h k =
+    absurd (breaks_none (within limit) (facts (as_file S)) (lawful-to S h.0) k)
 one_late S (Some (Found NoContours)) (Some (Found NoContours)) h k = refl
 one_late S (Some (Found NoContours)) (Some fault) h k = absurd k
 one_late S (Some fault) p h k = absurd h
@@ -95,20 +107,24 @@ pub one_refusal : (S : Parts) (e : Edit) (o p : Option EditFault) → IsRefusal 
 one_refusal S e o p h k = one_own (first_of (own_tests S e)) (changed S e) o p h k
 
 -- memory runs out where the edit itself has no refusal
-pub late : {T : Type 0} (r : Result T EditFault) (S : Parts) (e : Edit) → first_of (own_tests S e) ≡ None → IfErr r (IsEditMemory S e)
+pub late : {T : Type 0} (r : Result T EditFault) (S : Parts) (e : Edit) → first_of (own_tests S e) ≡ None
+    → IfErr r (IsEditMemory S e)
 late (Ok v) S e own = tt
 late (Err fault) S e own = λ _. own
 
 -- tests of the code as tests of parts
 abbrev pub short_held : Section → Bool
-short_held s = list_all (λ (c : Contour). int_le (pos (length c.points.items)) (pos MAX_CONTOUR_VERTICES)) s.contours.items
+short_held s = list_all (λ (c : Contour). int_le (pos (length c.points.items)) (pos MAX_CONTOUR_VERTICES))
+    s.contours.items
 
 pub shorts_held : (ss : List Section) → list_all has_short_contours (map section_parts ss) ≡ list_all short_held ss
 shorts_held [] = refl
 shorts_held (s ∷ ss) =
-    ap₂ (λ (a b : Bool). a && b) (list_all-map (λ (c : ContourParts). int_le c.count (pos MAX_CONTOUR_VERTICES)) contour_parts s.contours.items) (shorts_held ss)
+    ap₂ (λ (a b : Bool). a && b) (list_all-map (λ (c : ContourParts). int_le c.count (pos MAX_CONTOUR_VERTICES))
+    contour_parts s.contours.items) (shorts_held ss)
 
-pub smalls_held : (ss : List Section) → list_all is_small (map section_parts ss) ≡ list_all (λ (s : Section). is_small (section_parts s)) ss
+pub smalls_held : (ss : List Section)
+    → list_all is_small (map section_parts ss) ≡ list_all (λ (s : Section). is_small (section_parts s)) ss
 smalls_held ss = list_all-map is_small section_parts ss
 
 -- a count that stops at its last value is over a limit if the number is

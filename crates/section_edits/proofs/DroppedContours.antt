@@ -23,12 +23,15 @@ dropped_heights name (s ∷ ss) = ap (λ (zs : List ℤ). s.z ∷ zs) (dropped_h
 abbrev Other : List ℕ → ContourParts → Bool
 Other name c = not (has_name name c)
 
-dropped_contours : (name : List ℕ) (ss : List SectionParts) → contours_of (map (dropped_in name) ss) ≡ filter (Other name) (contours_of ss)
+dropped_contours : (name : List ℕ) (ss : List SectionParts)
+    → contours_of (map (dropped_in name) ss) ≡ filter (Other name) (contours_of ss)
 dropped_contours name [] = refl
 dropped_contours name (s ∷ ss) =
-    ap (λ (cs : List ContourParts). filter (Other name) s.contours ++ cs) (dropped_contours name ss) ∙ sym (filter-append (Other name) s.contours (contours_of ss))
+    ap (λ (cs : List ContourParts). filter (Other name) s.contours ++ cs) (dropped_contours name ss)
+    ∙ sym (filter-append (Other name) s.contours (contours_of ss))
 
-linked_filter : (rule : PairRule) (p : LinkParts → Bool) (ls : List LinkParts) → IsLinked rule ls → IsLinked rule (filter p ls)
+linked_filter : (rule : PairRule) (p : LinkParts → Bool) (ls : List LinkParts) → IsLinked rule ls
+    → IsLinked rule (filter p ls)
 linked_filter Overlap p ls h = ap (filter p) h
 linked_filter Links p ls h = all_filter IsLink p ls h
 
@@ -38,8 +41,10 @@ ready_dropped S name r =
     let tall = dropped_heights name ss in
     let stays : LinkParts → Bool = λ l. not (names_it name l) in
     record {
-      contours = subst (AllByRecursion IsWholeContour) (sym (dropped_contours name ss)) (all_filter IsWholeContour (Other name) (contours_of ss) r.contours);
-      names = subst (λ (cs : List ContourParts). AreDistinct (map name_of cs)) (sym (dropped_contours name ss)) (distinct_filter (Other name) (contours_of ss) r.names);
+      contours = subst (AllByRecursion IsWholeContour) (sym (dropped_contours name ss))
+          (all_filter IsWholeContour (Other name) (contours_of ss) r.contours);
+      names = subst (λ (cs : List ContourParts). AreDistinct (map name_of cs)) (sym (dropped_contours name ss))
+          (distinct_filter (Other name) (contours_of ss) r.names);
       in_range = subst (AllByRecursion IsCoordinate) (sym tall) r.in_range;
       rising = subst AreRising (sym tall) r.rising;
       few_sections = omega (arith, ap length tall, r.few_sections);

@@ -17,10 +17,14 @@ not_both S T e fault d (IsRefused.by_sections f n found) =
     paired_or_found (changed S e) d.whole.0 f (subst (λ (U : Parts). ArePairs U d.whole.0) d.parts d.whole.1) found
 
 pub one_refusal : (S : Parts) (e : Edit) (f g : EditFault) → IsRefused S e f → IsRefused S e g → f ≡ g
-one_refusal S e f g (IsRefused.by_edit _ r) (IsRefused.by_edit _ q) = let h : Some f ≡ Some g = only_refusal S e (Some f) (Some g) r q in cc
-one_refusal S e f g (IsRefused.by_edit _ r) (IsRefused.by_sections k n found) = absurd (none-some f (only_refusal S e None (Some f) n r))
-one_refusal S e f g (IsRefused.by_sections k n found) (IsRefused.by_edit _ q) = absurd (none-some g (only_refusal S e None (Some g) n q))
-one_refusal S e f g (IsRefused.by_sections k n found) (IsRefused.by_sections l m other) = ap Found (one_found (changed S e) k l found other)
+one_refusal S e f g (IsRefused.by_edit _ r) (IsRefused.by_edit _ q) = let h : Some f ≡ Some g =
+    only_refusal S e (Some f) (Some g) r q in cc
+one_refusal S e f g (IsRefused.by_edit _ r) (IsRefused.by_sections k n found) =
+    absurd (none-some f (only_refusal S e None (Some f) n r))
+one_refusal S e f g (IsRefused.by_sections k n found) (IsRefused.by_edit _ q) =
+    absurd (none-some g (only_refusal S e None (Some g) n q))
+one_refusal S e f g (IsRefused.by_sections k n found) (IsRefused.by_sections l m other) =
+    ap Found (one_found (changed S e) k l found other)
 
 one_step : (S T U : Parts) (e : Edit) → IsStep S e T → IsStep S e U → T ≡ U
 one_step S T U e (inl d) (inl c) = d.parts ∙ sym c.parts

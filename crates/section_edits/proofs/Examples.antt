@@ -54,15 +54,28 @@ moved : changed squares (Move b 2 (pos 12) (pos 12)) ≡ with_b (at 0 0 ∷ at 1
 moved = refl
 
 -- sections with this contour b keep all laws
-lawful_with : (spots : List Spot) → 3 ≤ length spots → length spots ≤ 4096 → AllByRecursion IsSpot spots → IsLawful (with_b spots) × HasContour (with_b spots)
+lawful_with : (spots : List Spot) → 3 ≤ length spots → length spots ≤ 4096 → AllByRecursion IsSpot spots
+    → IsLawful (with_b spots) × HasContour (with_b spots)
 lawful_with spots enough few near = (
   record {
     in_range = (omega arith, (omega arith, tt));
-    spots = ((omega arith, omega arith), ((omega arith, omega arith), ((omega arith, omega arith), ((omega arith, omega arith), all_join IsSpot spots [] near tt))));
+    spots = (
+      (omega arith, omega arith),
+      (
+        (omega arith, omega arith),
+        (
+          (omega arith, omega arith),
+          ((omega arith, omega arith), all_join IsSpot spots [] near tt),
+        ),
+      ),
+    );
     weighted = tt;
     apart = (((λ e. other_name e), tt), (tt, tt));
     rising = (omega (arith, ints), tt);
-    counted = ((omega (arith, ints), omega (arith, ints)), ((omega (arith, ints, enough), omega (arith, ints, few)), tt));
+    counted = (
+      (omega (arith, ints), omega (arith, ints)),
+      ((omega (arith, ints, enough), omega (arith, ints, few)), tt),
+    );
     small = (omega arith, (omega (arith, few), tt));
     few_vertices = omega (arith, few);
     few_contours = omega arith;
@@ -83,10 +96,16 @@ IsFine S e = IsRefusal S e None
 
 not_refused : IsFine squares (Move b 2 (pos 12) (pos 12))
 not_refused =
-    lawful_with (at 0 0 ∷ at 10 0 ∷ at 12 12 ∷ at 0 10 ∷ []) (omega arith) (omega arith)
-    (near 0 0 (omega arith) (omega arith), (near 10 0 (omega arith) (omega arith), (near 12 12 (omega arith) (omega arith), (near 0 10 (omega arith) (omega arith), tt))))
+    lawful_with (at 0 0 ∷ at 10 0 ∷ at 12 12 ∷ at 0 10 ∷ []) (omega arith) (omega arith) (
+      near 0 0 (omega arith) (omega arith),
+      (
+        near 10 0 (omega arith) (omega arith),
+        (near 12 12 (omega arith) (omega arith), (near 0 10 (omega arith) (omega arith), tt)),
+      ),
+    )
 
-moved_across : changed squares (Move b 2 (negsuc 4) (pos 5)) ≡ with_b (at 0 0 ∷ at 10 0 ∷ (negsuc 4, pos 5) ∷ at 0 10 ∷ [])
+moved_across : changed squares (Move b 2 (negsuc 4) (pos 5))
+    ≡ with_b (at 0 0 ∷ at 10 0 ∷ (negsuc 4, pos 5) ∷ at 0 10 ∷ [])
 moved_across = refl
 
 moved_back : changed (changed squares (Move b 2 (pos 12) (pos 12))) (Move b 2 (pos 10) (pos 10)) ≡ squares
@@ -98,8 +117,16 @@ inserted = refl
 
 inserted_fine : IsFine squares (Insert b 4 (pos 0) (pos 5))
 inserted_fine =
-    lawful_with (at 0 0 ∷ at 10 0 ∷ at 10 10 ∷ at 0 10 ∷ at 0 5 ∷ []) (omega arith) (omega arith)
-    (near 0 0 (omega arith) (omega arith), (near 10 0 (omega arith) (omega arith), (near 10 10 (omega arith) (omega arith), (near 0 10 (omega arith) (omega arith), (near 0 5 (omega arith) (omega arith), tt)))))
+    lawful_with (at 0 0 ∷ at 10 0 ∷ at 10 10 ∷ at 0 10 ∷ at 0 5 ∷ []) (omega arith) (omega arith) (
+      near 0 0 (omega arith) (omega arith),
+      (
+        near 10 0 (omega arith) (omega arith),
+        (
+          near 10 10 (omega arith) (omega arith),
+          (near 0 10 (omega arith) (omega arith), (near 0 5 (omega arith) (omega arith), tt)),
+        ),
+      ),
+    )
 
 removed_again : changed (changed squares (Insert b 4 (pos 0) (pos 5))) (Remove b 4) ≡ squares
 removed_again = refl
@@ -119,8 +146,10 @@ removed = refl
 
 removed_fine : IsFine squares (Remove b 0)
 removed_fine =
-    lawful_with (at 10 0 ∷ at 10 10 ∷ at 0 10 ∷ []) (omega arith) (omega arith)
-    (near 10 0 (omega arith) (omega arith), (near 10 10 (omega arith) (omega arith), (near 0 10 (omega arith) (omega arith), tt)))
+    lawful_with (at 10 0 ∷ at 10 10 ∷ at 0 10 ∷ []) (omega arith) (omega arith) (
+      near 10 0 (omega arith) (omega arith),
+      (near 10 10 (omega arith) (omega arith), (near 0 10 (omega arith) (omega arith), tt)),
+    )
 
 too_few : IsRefusal triangle (Remove b 0) (Some (TooFew b))
 too_few = refl
@@ -134,7 +163,9 @@ name_twice = refl
 no_section : IsRefusal triangle (AddContour (pos 11) (codes "d") corners) (Some (NoSection (pos 11)))
 no_section = refl
 
-added : changed squares (AddContour (pos 10) (codes "d") corners) ≡ of_sections (section 0 (contour_with a square ∷ []) ∷ section 10 (contour_with b square ∷ contour_with (codes "d") (at 0 0 ∷ at 5 0 ∷ at 0 5 ∷ []) ∷ []) ∷ [])
+added : changed squares (AddContour (pos 10) (codes "d") corners)
+    ≡ of_sections (section 0 (contour_with a square ∷ [])
+    ∷ section 10 (contour_with b square ∷ contour_with (codes "d") (at 0 0 ∷ at 5 0 ∷ at 0 5 ∷ []) ∷ []) ∷ [])
 added = refl
 
 too_far : IsRefusal triangle (Move b 0 (pos 1000000) (pos 0)) (Some EditForm)
@@ -147,7 +178,10 @@ dropped_fine : IsFine triangle (RemoveContour b)
 dropped_fine = (
   record {
     in_range = (omega arith, (omega arith, tt));
-    spots = ((omega arith, omega arith), ((omega arith, omega arith), ((omega arith, omega arith), ((omega arith, omega arith), tt))));
+    spots = (
+      (omega arith, omega arith),
+      ((omega arith, omega arith), ((omega arith, omega arith), ((omega arith, omega arith), tt))),
+    );
     weighted = tt;
     apart = (tt, tt);
     rising = (omega (arith, ints), tt);

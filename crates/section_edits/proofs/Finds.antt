@@ -8,7 +8,9 @@ use Rattle.std.proofs.lemmas.Grind.{flat_map-append}
 use Rattle.fku_types.proofs.ListLaws.{split_at, take_next}
 
 -- what is found in the parts of a list, where the parts before a place have nothing
-pub find_here : {X Y : Type 0} (p : Y → Bool) (g : X → List Y) (xs : List X) (i : ℕ) (x : X) (y : Y) → i < length xs → x ≡ get_or xs i x → find p (flat_map g (take i xs)) ≡ None → find p (g x) ≡ Some y → find p (flat_map g xs) ≡ Some y
+pub find_here : {X Y : Type 0} (p : Y → Bool) (g : X → List Y) (xs : List X) (i : ℕ) (x : X) (y : Y) → i < length xs
+    → x ≡ get_or xs i x → find p (flat_map g (take i xs)) ≡ None → find p (g x) ≡ Some y
+    → find p (flat_map g xs) ≡ Some y
 find_here {X = X} {Y = Y} p g xs i x y l e none here =
     ap (λ (ys : List X). find p (flat_map g ys)) (split_at xs i x l e)
     ∙ ap (find p) (flat_map-append g (take i xs) (x ∷ drop (i + 1) xs))
@@ -17,7 +19,9 @@ find_here {X = X} {Y = Y} p g xs i x y l e none here =
     ∙ find-append p (g x) (flat_map g (drop (i + 1) xs))
     ∙ ap (λ (o : Option Y). option_or o (find p (flat_map g (drop (i + 1) xs)))) here
 
-pub find_more : {X Y : Type 0} (p : Y → Bool) (g : X → List Y) (xs : List X) (i : ℕ) (x : X) → i < length xs → x ≡ get_or xs i x → find p (flat_map g (take i xs)) ≡ None → find p (g x) ≡ None → find p (flat_map g (take (i + 1) xs)) ≡ None
+pub find_more : {X Y : Type 0} (p : Y → Bool) (g : X → List Y) (xs : List X) (i : ℕ) (x : X) → i < length xs
+    → x ≡ get_or xs i x → find p (flat_map g (take i xs)) ≡ None → find p (g x) ≡ None
+    → find p (flat_map g (take (i + 1) xs)) ≡ None
 find_more {X = X} {Y = Y} p g xs i x l e none here =
     ap (λ (ys : List X). find p (flat_map g ys)) (take_next xs i x l e)
     ∙ ap (find p) (flat_map-append g (take i xs) (x ∷ []))
@@ -26,5 +30,6 @@ find_more {X = X} {Y = Y} p g xs i x l e none here =
     ∙ ap (λ (o : Option Y). option_or o (find p (g x))) none
     ∙ here
 
-pub find_all : {X Y : Type 0} (p : Y → Bool) (g : X → List Y) (xs : List X) (i : ℕ) → length xs ≤ i → find p (flat_map g (take i xs)) ≡ None → find p (flat_map g xs) ≡ None
+pub find_all : {X Y : Type 0} (p : Y → Bool) (g : X → List Y) (xs : List X) (i : ℕ) → length xs ≤ i
+    → find p (flat_map g (take i xs)) ≡ None → find p (flat_map g xs) ≡ None
 find_all {X = X} p g xs i l none = subst (λ (ys : List X). find p (flat_map g ys) ≡ None) (take_all i xs l) none

@@ -33,7 +33,8 @@ same_spots : (ps qs : List Spot) → AllZip SameWord (flat_map spot_words ps) (f
 same_spots [] [] h = refl
 same_spots [] (q ∷ qs) h = absurd h
 same_spots (p ∷ ps) [] h = absurd h
-same_spots (p ∷ ps) (q ∷ qs) h = ap₂ (λ (s : Spot) (ss : List Spot). s ∷ ss) (same_spot p q h.0 h.1.0) (same_spots ps qs h.1.1)
+same_spots (p ∷ ps) (q ∷ qs) h = ap₂ (λ (s : Spot) (ss : List Spot). s ∷ ss) (same_spot p q h.0 h.1.0)
+    (same_spots ps qs h.1.1)
 
 same_edit : (e f : Edit) → AllZip SameWord (edit_words e) (edit_words f) → e ≡ f
 same_edit (Move n i x y) (Move m j u v) h =

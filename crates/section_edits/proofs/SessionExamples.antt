@@ -6,7 +6,8 @@ use Rattle.strip_graph.specs.Strips.{Strip}
 use Rattle.section_edits.specs.Fresh.{fresh}
 
 abbrev ring : ℤ → ℕ → List Point
-ring z corner = record { x = pos 0; y = pos 0; z = z } ∷ record { x = pos 10; y = pos 0; z = z } ∷ record { x = pos corner; y = pos corner; z = z } ∷ record { x = pos 0; y = pos 10; z = z } ∷ []
+ring z corner = record { x = pos 0; y = pos 0; z = z } ∷ record { x = pos 10; y = pos 0; z = z }
+    ∷ record { x = pos corner; y = pos corner; z = z } ∷ record { x = pos 0; y = pos 10; z = z } ∷ []
 
 -- the pair of squares at two heights, with one corner each; the ids are those of the file
 abbrev pair : ℕ → ℕ → ℕ → ℕ → ℕ → Strip

@@ -23,7 +23,8 @@ contour_fault_told sections (inl h) = h.has
 contour_fault_told sections (inr h) = h.first.has
 
 pub late_in_contours : (S : Parts) (f : Fault) → IsContourFault (map section_of S.sections) f → IsLateMemory S f
-late_in_contours S f h e = absurd (contour_fault_told (map section_of S.sections) (subst (IsContourFault (map section_of S.sections)) e h))
+late_in_contours S f h e = absurd (contour_fault_told (map section_of S.sections)
+    (subst (IsContourFault (map section_of S.sections)) e h))
 
 -- what holds of every fault
 pub always : {X : Type 0} (r : Result X Fault) (Q : Fault → Type 0) → ((f : Fault) → Q f) → IfErr r Q
@@ -31,22 +32,27 @@ always (Ok v) Q h = tt
 always (Err f) Q h = h f
 
 -- what a composite refuses, for an equal side
-pub compose_told : {X : Type 0} (r : Result X Fault) (side other : ℕ × ℕ) → side ≡ other → IfErr r (IsComposeFault side) → IfErr r (OrNoMemory (HasLongSide other))
+pub compose_told : {X : Type 0} (r : Result X Fault) (side other : ℕ × ℕ) → side ≡ other → IfErr r (IsComposeFault side)
+    → IfErr r (OrNoMemory (HasLongSide other))
 compose_told (Ok v) side other e h = tt
 compose_told (Err f) side other e (inl h) = inr (subst (λ (s : ℕ × ℕ). HasLongSide s f) e h)
 compose_told (Err f) side other e (inr h) = inl h.0
 
 -- what follows for the value of a result
-pub ok_then : {X E : Type 0} (r : Result X E) (P Q R : X → Type 0) → IfOk r P → IfOk r Q → ((v : X) → P v → Q v → R v) → IfOk r R
+pub ok_then : {X E : Type 0} (r : Result X E) (P Q R : X → Type 0) → IfOk r P → IfOk r Q → ((v : X) → P v → Q v → R v)
+    → IfOk r R
 ok_then (Ok v) P Q R p q f = f v p q
 ok_then (Err e) P Q R p q f = tt
 
 -- ---- what holds of a result whose value or fault is known
-pub of_ok : {X : Type 0} (r : Result X Fault) (x : X) (P : X → Type 0) (Q : Fault → Type 0) → r ≡ Ok x → MatchResult r P Q → P x
+pub of_ok : {X : Type 0} (r : Result X Fault) (x : X) (P : X → Type 0) (Q : Fault → Type 0) → r ≡ Ok x
+    → MatchResult r P Q → P x
 of_ok {X = X} r x P Q e h = subst (λ (s : Result X Fault). MatchResult s P Q) e h
 
-pub of_err : {X : Type 0} (r : Result X Fault) (f : Fault) (P : X → Type 0) (Q : Fault → Type 0) → r ≡ Err f → MatchResult r P Q → Q f
+pub of_err : {X : Type 0} (r : Result X Fault) (f : Fault) (P : X → Type 0) (Q : Fault → Type 0) → r ≡ Err f
+    → MatchResult r P Q → Q f
 of_err {X = X} r f P Q e h = subst (λ (s : Result X Fault). MatchResult s P Q) e h
 
-pub of_err_back : {X : Type 0} (r : Result X Fault) (f : Fault) (P : X → Type 0) (Q : Fault → Type 0) → r ≡ Err f → Q f → MatchResult r P Q
+pub of_err_back : {X : Type 0} (r : Result X Fault) (f : Fault) (P : X → Type 0) (Q : Fault → Type 0) → r ≡ Err f → Q f
+    → MatchResult r P Q
 of_err_back {X = X} r f P Q e h = subst (λ (s : Result X Fault). MatchResult s P Q) (sym e) h

@@ -19,10 +19,13 @@ use Rattle.section_pairs.specs.SectionFaults.{IsSimpleContour, IsApartSection, A
 pub alone : (name : List ℕ) (z : ℤ) (outline : List Point) → IsApartSection (z, (name, outline) ∷ [])
 alone name z outline e f l k t = omega (arith, l, k)
 
-pub two_sound : (name above : List ℕ) (z y : ℤ) (outline other : List Point) → IsSimple outline → IsSimple other → AreSound ((z, (name, outline) ∷ []) ∷ (y, (above, other) ∷ []) ∷ [])
+pub two_sound : (name above : List ℕ) (z y : ℤ) (outline other : List Point) → IsSimple outline → IsSimple other
+    → AreSound ((z, (name, outline) ∷ []) ∷ (y, (above, other) ∷ []) ∷ [])
 two_sound name above z y outline other s t = record {
-  simple = All-cons IsSimpleContour (name, outline) ((above, other) ∷ []) s (All-cons IsSimpleContour (above, other) [] t (All-nil IsSimpleContour));
-  apart = All-cons IsApartSection (z, (name, outline) ∷ []) ((y, (above, other) ∷ []) ∷ []) (alone name z outline) (All-cons IsApartSection (y, (above, other) ∷ []) [] (alone above y other) (All-nil IsApartSection));
+  simple = All-cons IsSimpleContour (name, outline) ((above, other) ∷ []) s
+      (All-cons IsSimpleContour (above, other) [] t (All-nil IsSimpleContour));
+  apart = All-cons IsApartSection (z, (name, outline) ∷ []) ((y, (above, other) ∷ []) ∷ []) (alone name z outline)
+      (All-cons IsApartSection (y, (above, other) ∷ []) [] (alone above y other) (All-nil IsApartSection));
 }
 
 pub two_short : (n m : ℕ) → n ≤ MAX_COMPOSITE_VERTICES → m ≤ MAX_COMPOSITE_VERTICES → All IsShort ((1, n) ∷ (2, m) ∷ [])
@@ -32,9 +35,11 @@ abbrev pub both : Members
 both = record { below = 0 ∷ []; above = 0 ∷ [] }
 
 zero_only : (k : ℕ) → has k (0 ∷ []) ≡ true → k ≡ 0
-zero_only k e = elim (cases_Bool (0 == k)) [ inl t ↦ sym (eqb-true 0 k t) | inr f ↦ absurd (false≢true (sym (ap (λ (b : Bool). b || false) f) ∙ e)) ]
+zero_only k e = elim (cases_Bool (0 == k))
+    [ inl t ↦ sym (eqb-true 0 k t) | inr f ↦ absurd (false≢true (sym (ap (λ (b : Bool). b || false) f) ∙ e)) ]
 
-module _ (T : Parts) (g : ℕ) (one_below : length (layer_at T g).outlines ≡ 1) (one_above : length (layer_at T (g + 1)).outlines ≡ 1) (joined : Correspond T g 0 0) where
+module _ (T : Parts) (g : ℕ) (one_below : length (layer_at T g).outlines ≡ 1)
+    (one_above : length (layer_at T (g + 1)).outlines ≡ 1) (joined : Correspond T g 0 0) where
   is_zero : (i j : ℕ) → Correspond T g i j → (i ≡ 0) × (j ≡ 0)
   is_zero i j h = (omega (arith, h.below, one_below), omega (arith, h.above, one_above))
 
@@ -70,7 +75,8 @@ module _ (T : Parts) (g : ℕ) (one_below : length (layer_at T g).outlines ≡ 1
     every = λ i j l k h. rw (is_zero i j h).0 refl;
   }
 
-pub one_gap : (S : Parts) → length S.sections ≡ 2 → length (layer_at S 0).outlines ≡ 1 → length (layer_at S 1).outlines ≡ 1 → Correspond S 0 0 0 → AreGaps S ((both ∷ []) ∷ [])
+pub one_gap : (S : Parts) → length S.sections ≡ 2 → length (layer_at S 0).outlines ≡ 1
+    → length (layer_at S 1).outlines ≡ 1 → Correspond S 0 0 0 → AreGaps S ((both ∷ []) ∷ [])
 one_gap S two one_below one_above joined = record { count = sym two; components = at_gap }
   where
     at_gap : (g : ℕ) → g < 1 → AreGapMembers S g (slice_index_or ((both ∷ []) ∷ []) g [])

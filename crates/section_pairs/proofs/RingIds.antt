@@ -33,35 +33,45 @@ turned_each P (x ∷ xs) h (suc k) d l =
     let within : k < length xs = omega (arith, length-reverse xs) in
     subst P (sym (get_or-reverse xs k d within)) (h (suc (length xs - 1 - k)) d (omega arith))
 
-ring_each : (P : ℕ → Type 0) (d first : ℕ) (points : List Point) → ((i : ℕ) → i < length points → P (first + i)) → All P (ring_from d first points).ids
+ring_each : (P : ℕ → Type 0) (d first : ℕ) (points : List Point) → ((i : ℕ) → i < length points → P (first + i))
+    → All P (ring_from d first points).ids
 unfolding ring_from
 ring_each P d first points h =
     let Q : RingView → Type 0 = λ l. All P l.ids in
     let ids = range_each P first (length points) h in
-    elim (is_turned d points) as (λ b. Q (if b then record { points = turned points; ids = turned (range_with_len first (length points)) } else record { points = points; ids = range_with_len first (length points) })) [
+    elim (is_turned d points) as (λ b.
+    Q (if b then record { points = turned points; ids = turned (range_with_len first (length points)) } else record
+    { points = points; ids = range_with_len first (length points) })) [
       | true ↦ turned_each P (range_with_len first (length points)) ids
       | false ↦ ids
     ]
 
-mapped_each : (P : ℕ → Type 0) (first : ℕ) (contours : List (List Point)) → ((i : ℕ) → i < sum_by length contours → P (first + i)) → (ks : List ℕ) → AllByRecursion (λ k. k < length contours) ks → EachId P (map (ring_at first contours) ks)
+mapped_each : (P : ℕ → Type 0) (first : ℕ) (contours : List (List Point))
+    → ((i : ℕ) → i < sum_by length contours → P (first + i)) → (ks : List ℕ)
+    → AllByRecursion (λ k. k < length contours) ks → EachId P (map (ring_at first contours) ks)
 mapped_each P first contours h [] l = tt
 mapped_each P first contours h (k ∷ ks) l = (
   ring_each P (depth contours k) (first_id first contours k) (contour_at contours k)
-      (λ i m. let e : first + (sum_by length (take k contours) + i) ≡ first + sum_by length (take k contours) + i = omega arith in
+      (λ i m. let e : first + (sum_by length (take k contours) + i) ≡ first + sum_by length (take k contours) + i =
+      omega arith in
       subst P e (h (sum_by length (take k contours) + i) (omega (arith, m, sum_by_more_le length contours k [] l.0)))),
   mapped_each P first contours h ks l.1,
 )
 
-pub oriented_each : (P : ℕ → Type 0) (first : ℕ) (contours : List (List Point)) → ((i : ℕ) → i < sum_by length contours → P (first + i)) → EachId P (oriented first contours)
+pub oriented_each : (P : ℕ → Type 0) (first : ℕ) (contours : List (List Point))
+    → ((i : ℕ) → i < sum_by length contours → P (first + i)) → EachId P (oriented first contours)
 unfolding oriented
-oriented_each P first contours h = mapped_each P first contours h (range_with_len 0 (length contours)) (range_below (length contours) 0 (length contours) (omega arith))
+oriented_each P first contours h =
+    mapped_each P first contours h (range_with_len 0 (length contours))
+    (range_below (length contours) 0 (length contours) (omega arith))
 
 get_each : (P : ℕ → Type 0) (rings : List RingView) (k : ℕ) → EachId P rings → All P (view_at rings k).ids
 get_each P [] k h = All-nil P
 get_each P (r ∷ rings) zero h = h.0
 get_each P (r ∷ rings) (suc k) h = get_each P rings k h.1
 
-pub pick_each : (P : ℕ → Type 0) (rings : List RingView) (places : List ℕ) → EachId P rings → EachId P (pick rings places)
+pub pick_each : (P : ℕ → Type 0) (rings : List RingView) (places : List ℕ) → EachId P rings
+    → EachId P (pick rings places)
 pick_each P rings [] h = tt
 pick_each P rings (k ∷ ks) h = (get_each P rings k h, pick_each P rings ks h)
 

@@ -31,22 +31,29 @@ turned-map : {X Y : Type 0} (f : X → Y) (xs : List X) → turned (map f xs) �
 turned-map f [] = refl
 turned-map {Y = Y} f (x ∷ xs) = ap (λ (ys : List Y). f x ∷ ys) (reverse-map f xs)
 
-ring_raised : (n d first : ℕ) (points : List Point) → ring_from d (n + first) points ≡ raised n (ring_from d first points)
+ring_raised : (n d first : ℕ) (points : List Point)
+    → ring_from d (n + first) points ≡ raised n (ring_from d first points)
 unfolding ring_from
 ring_raised n d first points =
     let ids = range_raised n first (length points) in
-    elim (is_turned d points) as (λ b. (if b then record { points = turned points; ids = turned (range_with_len (n + first) (length points)) } else record { points = points; ids = range_with_len (n + first) (length points) })
-    ≡ raised n (if b then record { points = turned points; ids = turned (range_with_len first (length points)) } else record { points = points; ids = range_with_len first (length points) })) [
-      | true ↦ ap (λ (xs : List ℕ). let r : RingView = record { points = turned points; ids = xs } in r) (ap turned ids ∙ turned-map (λ i. n + i) (range_with_len first (length points)))
+    elim (is_turned d points) as (λ b.
+    (if b then record { points = turned points; ids = turned (range_with_len (n + first) (length points)) } else
+    record { points = points; ids = range_with_len (n + first) (length points) })
+    ≡ raised n (if b then record { points = turned points; ids = turned (range_with_len first (length points)) } else
+    record { points = points; ids = range_with_len first (length points) })) [
+      | true ↦ ap (λ (xs : List ℕ). let r : RingView = record { points = turned points; ids = xs } in r)
+          (ap turned ids ∙ turned-map (λ i. n + i) (range_with_len first (length points)))
       | false ↦ ap (λ (xs : List ℕ). let r : RingView = record { points = points; ids = xs } in r) ids
     ]
 
-rings_raised : (n : ℕ) (contours : List (List Point)) (ks : List ℕ) → map (ring_at n contours) ks ≡ map (raised n) (map (ring_at 0 contours) ks)
+rings_raised : (n : ℕ) (contours : List (List Point)) (ks : List ℕ)
+    → map (ring_at n contours) ks ≡ map (raised n) (map (ring_at 0 contours) ks)
 rings_raised n contours [] = refl
 rings_raised n contours (k ∷ ks) =
     let e : first_id n contours k ≡ n + first_id 0 contours k = omega arith in
     ap₂ (λ (r : RingView) (rs : List RingView). r ∷ rs)
-    (ap (λ (first : ℕ). ring_from (depth contours k) first (contour_at contours k)) e ∙ ring_raised n (depth contours k) (first_id 0 contours k) (contour_at contours k))
+    (ap (λ (first : ℕ). ring_from (depth contours k) first (contour_at contours k)) e
+    ∙ ring_raised n (depth contours k) (first_id 0 contours k) (contour_at contours k))
     (rings_raised n contours ks)
 
 oriented_raised : (n : ℕ) (contours : List (List Point)) → oriented n contours ≡ map (raised n) (oriented 0 contours)
@@ -58,9 +65,11 @@ view_raised n [] c = refl
 view_raised n (r ∷ rings) zero = refl
 view_raised n (r ∷ rings) (suc c) = view_raised n rings c
 
-pick_raised : (n : ℕ) (rings : List RingView) (places : List ℕ) → pick (map (raised n) rings) places ≡ map (raised n) (pick rings places)
+pick_raised : (n : ℕ) (rings : List RingView) (places : List ℕ)
+    → pick (map (raised n) rings) places ≡ map (raised n) (pick rings places)
 pick_raised n rings [] = refl
-pick_raised n rings (k ∷ ks) = ap₂ (λ (r : RingView) (rs : List RingView). r ∷ rs) (view_raised n rings k) (pick_raised n rings ks)
+pick_raised n rings (k ∷ ks) = ap₂ (λ (r : RingView) (rs : List RingView). r ∷ rs) (view_raised n rings k)
+    (pick_raised n rings ks)
 
 -- ---- bridges are chosen by points only
 least_same : (f g : ℕ → ℕ) → ((k : ℕ) → f k ≡ g k) → (n : ℕ) → first_least f n ≡ first_least g n
@@ -70,28 +79,39 @@ least_same f g same (suc n) =
     ap₂ (λ (a b : ℕ). if nat_lt a b then n else first_least f n) (same n) (ap f e ∙ same (first_least g n))
     ∙ ap (λ (m : ℕ). if nat_lt (g n) (g (first_least g n)) then n else m) e
 
-nearest_raised : (n : ℕ) (p : Point) (rings : List RingView) → nearest_ring p (map (raised n) rings) ≡ nearest_ring p rings
+nearest_raised : (n : ℕ) (p : Point) (rings : List RingView)
+    → nearest_ring p (map (raised n) rings) ≡ nearest_ring p rings
 nearest_raised n p rings =
     ap (first_least (λ c. ring_square p (view_at (map (raised n) rings) c))) (length-map rings (raised n))
-    ∙ least_same (λ c. ring_square p (view_at (map (raised n) rings) c)) (λ c. ring_square p (view_at rings c)) (λ c. ap (ring_square p) (view_raised n rings c)) (length rings)
+    ∙ least_same (λ c. ring_square p (view_at (map (raised n) rings) c)) (λ c. ring_square p (view_at rings c))
+    (λ c. ap (ring_square p) (view_raised n rings c)) (length rings)
 
-square_raised : (n : ℕ) (ring : RingView) (others : List RingView) (p : ℕ) → bridge_square (raised n ring) (map (raised n) others) p ≡ bridge_square ring others p
+square_raised : (n : ℕ) (ring : RingView) (others : List RingView) (p : ℕ)
+    → bridge_square (raised n ring) (map (raised n) others) p ≡ bridge_square ring others p
 square_raised n ring others p =
     let q = ring_point_at ring p in
-    ap (λ (c : ℕ). ring_square q (view_at (map (raised n) others) c)) (nearest_raised n q others) ∙ ap (ring_square q) (view_raised n others (nearest_ring q others))
+    ap (λ (c : ℕ). ring_square q (view_at (map (raised n) others) c)) (nearest_raised n q others)
+    ∙ ap (ring_square q) (view_raised n others (nearest_ring q others))
 
-bridge_raised : (n : ℕ) (ring : RingView) (others : List RingView) → least_bridge (raised n ring) (map (raised n) others) ≡ least_bridge ring others
+bridge_raised : (n : ℕ) (ring : RingView) (others : List RingView)
+    → least_bridge (raised n ring) (map (raised n) others) ≡ least_bridge ring others
 unfolding least_bridge
 bridge_raised n ring others =
-    let at : ℕ → List RingView → ℕ → Bridge = λ p rings c. record { place = p; other = c; vertex = nearest_vertex (ring_point_at ring p) (view_at rings c) } in
+    let at : ℕ → List RingView → ℕ → Bridge =
+    λ p rings c. record { place = p; other = c; vertex = nearest_vertex (ring_point_at ring p) (view_at rings c) }
+    in
     let q = bridge_place ring others in
     let c = nearest_ring (ring_point_at ring q) others in
-    ap (λ (p : ℕ). at p (map (raised n) others) (nearest_ring (ring_point_at ring p) (map (raised n) others))) (least_same (bridge_square (raised n ring) (map (raised n) others)) (bridge_square ring others) (square_raised n ring others) (length ring.points))
+    ap (λ (p : ℕ). at p (map (raised n) others) (nearest_ring (ring_point_at ring p) (map (raised n) others)))
+    (least_same (bridge_square (raised n ring) (map (raised n) others)) (bridge_square ring others)
+    (square_raised n ring others) (length ring.points))
     ∙ ap (at q (map (raised n) others)) (nearest_raised n (ring_point_at ring q) others)
-    ∙ ap (λ (r : RingView). let b : Bridge = record { place = q; other = c; vertex = nearest_vertex (ring_point_at ring q) r } in b) (view_raised n others c)
+    ∙ ap (λ (r : RingView). let b : Bridge =
+    record { place = q; other = c; vertex = nearest_vertex (ring_point_at ring q) r } in b) (view_raised n others c)
 
 -- ---- composites
-join-map : {X Y : Type 0} (f : X → Y) (xs ys : List X) (p v : ℕ) → join (map f xs) (map f ys) p v ≡ map f (join xs ys p v)
+join-map : {X Y : Type 0} (f : X → Y) (xs ys : List X) (p v : ℕ)
+    → join (map f xs) (map f ys) p v ≡ map f (join xs ys p v)
 join-map {Y = Y} f xs ys p v =
     let a = take (p + 1) xs in
     let b = drop v ys in
@@ -99,35 +119,46 @@ join-map {Y = Y} f xs ys p v =
     let d = drop p xs in
     let plus : List Y → List Y → List Y = λ us vs. us ++ vs in
     ap₂ plus (take-map f (p + 1) xs) (ap₂ plus (drop-map f v ys) (ap₂ plus (take-map f (v + 1) ys) (drop-map f p xs)))
-    ∙ sym (map-append f a (b ++ (c ++ d)) ∙ ap (plus (map f a)) (map-append f b (c ++ d) ∙ ap (plus (map f b)) (map-append f c d)))
+    ∙ sym (map-append f a (b ++ (c ++ d))
+    ∙ ap (plus (map f a)) (map-append f b (c ++ d) ∙ ap (plus (map f b)) (map-append f c d)))
 
-joined_raised : (n : ℕ) (ring other : RingView) (p v : ℕ) → bridged (raised n ring) (raised n other) p v ≡ raised n (bridged ring other p v)
-joined_raised n ring other p v = ap (λ (ids : List ℕ). let r : RingView = record { points = join ring.points other.points p v; ids = ids } in r) (join-map (λ i. n + i) ring.ids other.ids p v)
+joined_raised : (n : ℕ) (ring other : RingView) (p v : ℕ)
+    → bridged (raised n ring) (raised n other) p v ≡ raised n (bridged ring other p v)
+joined_raised n ring other p v = ap
+    (λ (ids : List ℕ). let r : RingView = record { points = join ring.points other.points p v; ids = ids } in r)
+    (join-map (λ i. n + i) ring.ids other.ids p v)
 
-remove_raised : (n : ℕ) (rings : List RingView) (c : ℕ) → remove (map (raised n) rings) c ≡ map (raised n) (remove rings c)
+remove_raised : (n : ℕ) (rings : List RingView) (c : ℕ)
+    → remove (map (raised n) rings) c ≡ map (raised n) (remove rings c)
 remove_raised n [] zero = refl
 remove_raised n [] (suc c) = refl
 remove_raised n (r ∷ rings) zero = refl
 remove_raised n (r ∷ rings) (suc c) = ap (λ (rs : List RingView). raised n r ∷ rs) (remove_raised n rings c)
 
-others_raised : (n m : ℕ) (ring : RingView) (others : List RingView) → join_others m (raised n ring) (map (raised n) others) ≡ raised n (join_others m ring others)
+others_raised : (n m : ℕ) (ring : RingView) (others : List RingView)
+    → join_others m (raised n ring) (map (raised n) others) ≡ raised n (join_others m ring others)
 others_raised n zero ring others = refl
 others_raised n (suc m) ring others =
     let b = least_bridge ring others in
     let all = map (raised n) others in
-    let joins : Bridge → RingView = λ c. join_others m (bridged (raised n ring) (view_at all c.other) c.place c.vertex) (remove all c.other) in
+    let joins : Bridge → RingView = λ c.
+    join_others m (bridged (raised n ring) (view_at all c.other) c.place c.vertex) (remove all c.other) in
     let next = bridged ring (view_at others b.other) b.place b.vertex in
     ap joins (bridge_raised n ring others)
-    ∙ ap₂ (join_others m) (ap (λ (o : RingView). bridged (raised n ring) o b.place b.vertex) (view_raised n others b.other) ∙ joined_raised n ring (view_at others b.other) b.place b.vertex) (remove_raised n others b.other)
+    ∙ ap₂ (join_others m) (ap (λ (o : RingView). bridged (raised n ring) o b.place b.vertex)
+    (view_raised n others b.other) ∙ joined_raised n ring (view_at others b.other) b.place b.vertex)
+    (remove_raised n others b.other)
     ∙ others_raised n m next (remove others b.other)
 
 composite_raised : (n : ℕ) (rings : List RingView) → composite (map (raised n) rings) ≡ raised n (composite rings)
 composite_raised n [] = refl
 composite_raised n (r ∷ rings) =
-    ap (λ (m : ℕ). join_others m (raised n r) (map (raised n) rings)) (length-map rings (raised n)) ∙ others_raised n (length rings) r rings
+    ap (λ (m : ℕ). join_others m (raised n r) (map (raised n) rings)) (length-map rings (raised n))
+    ∙ others_raised n (length rings) r rings
 
 -- the composite of some rings of a section, from that of the section by itself
-pub begun_at : (n : ℕ) (contours : List (List Point)) (places : List ℕ) → composite_at (oriented n contours) places ≡ raised n (composite_at (oriented 0 contours) places)
+pub begun_at : (n : ℕ) (contours : List (List Point)) (places : List ℕ)
+    → composite_at (oriented n contours) places ≡ raised n (composite_at (oriented 0 contours) places)
 begun_at n contours places =
     ap (λ (rings : List RingView). composite (pick rings places)) (oriented_raised n contours)
     ∙ ap composite (pick_raised n (oriented 0 contours) places)

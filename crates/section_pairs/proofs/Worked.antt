@@ -33,7 +33,8 @@ abbrev pub squares : Parts
 squares = stack (at 0 (contour 97 (box 0 10) ∷ []) ∷ at 10 (contour 98 (box 0 10) ∷ []) ∷ [])
 
 abbrev clockwise : Parts
-clockwise = stack (at 0 (contour 97 ((pos 0, pos 0) ∷ (pos 0, pos 10) ∷ (pos 10, pos 10) ∷ (pos 10, pos 0) ∷ []) ∷ []) ∷ at 10 (contour 98 (box 0 10) ∷ []) ∷ [])
+clockwise = stack (at 0 (contour 97 ((pos 0, pos 0) ∷ (pos 0, pos 10) ∷ (pos 10, pos 10) ∷ (pos 10, pos 0) ∷ []) ∷ [])
+    ∷ at 10 (contour 98 (box 0 10) ∷ []) ∷ [])
 
 -- one contour under two
 abbrev pub branching : Parts
@@ -41,7 +42,8 @@ branching = stack (at 0 (contour 97 (box 0 30) ∷ []) ∷ at 10 (contour 98 (bo
 
 -- a square with a hole
 abbrev nested : Parts
-nested = stack (at 0 (contour 97 (box 0 30) ∷ contour 98 ((pos 10, pos 2) ∷ (pos 20, pos 2) ∷ (pos 20, pos 8) ∷ (pos 10, pos 8) ∷ []) ∷ []) ∷ [])
+nested = stack (at 0 (contour 97 (box 0 30)
+    ∷ contour 98 ((pos 10, pos 2) ∷ (pos 20, pos 2) ∷ (pos 20, pos 8) ∷ (pos 10, pos 8) ∷ []) ∷ []) ∷ [])
 
 abbrev pub component : List ℕ → List ℕ → Members
 component below above = record { below = below; above = above }
@@ -53,14 +55,17 @@ abbrev under_two : List (List Members)
 under_two = (component (0 ∷ []) (0 ∷ 1 ∷ []) ∷ []) ∷ []
 
 -- vertices are numbered in file order
-numbers : (map vertices_in branching.sections ≡ 4 ∷ 8 ∷ []) × (first_vertex branching 0 ≡ 0) × (first_vertex branching 1 ≡ 4) × (first_vertex branching 2 ≡ 12)
+numbers : (map vertices_in branching.sections ≡ 4 ∷ 8 ∷ []) × (first_vertex branching 0 ≡ 0)
+    × (first_vertex branching 1 ≡ 4) × (first_vertex branching 2 ≡ 12)
 numbers = (refl, refl, refl, refl)
 
 abbrev ids_at : Parts → ℕ → List (List ℕ)
 ids_at S s = map (λ (r : RingView). r.ids) (rings_at S s)
 
 -- outer contours turn counterclockwise, and holes clockwise
-turned : (ids_at branching 1 ≡ (4 ∷ 5 ∷ 6 ∷ 7 ∷ []) ∷ (8 ∷ 9 ∷ 10 ∷ 11 ∷ []) ∷ []) × (ids_at clockwise 0 ≡ (0 ∷ 3 ∷ 2 ∷ 1 ∷ []) ∷ []) × (ids_at nested 0 ≡ (0 ∷ 1 ∷ 2 ∷ 3 ∷ []) ∷ (4 ∷ 7 ∷ 6 ∷ 5 ∷ []) ∷ [])
+turned : (ids_at branching 1 ≡ (4 ∷ 5 ∷ 6 ∷ 7 ∷ []) ∷ (8 ∷ 9 ∷ 10 ∷ 11 ∷ []) ∷ [])
+    × (ids_at clockwise 0 ≡ (0 ∷ 3 ∷ 2 ∷ 1 ∷ []) ∷ [])
+    × (ids_at nested 0 ≡ (0 ∷ 1 ∷ 2 ∷ 3 ∷ []) ∷ (4 ∷ 7 ∷ 6 ∷ 5 ∷ []) ∷ [])
 unfolding oriented ring_from depth is_inside
 turned = (refl, refl, refl)
 
@@ -71,13 +76,23 @@ branch = pairs_from branching 0 under_two
 abbrev ids_of : PairParts → List ℕ × List ℕ
 ids_of p = (p.strip.low_ids, p.strip.high_ids)
 
-branches : (map ids_of branch ≡ (0 ∷ 1 ∷ 2 ∷ 3 ∷ [], 4 ∷ 5 ∷ 8 ∷ 9 ∷ 10 ∷ 11 ∷ 8 ∷ 5 ∷ 6 ∷ 7 ∷ []) ∷ []) × (map (λ (p : PairParts). p.gap) branch ≡ 0 ∷ []) × (sides_from branching 0 under_two ≡ (1, 4) ∷ (2, 10) ∷ [])
+branches : (map ids_of branch ≡ (0 ∷ 1 ∷ 2 ∷ 3 ∷ [], 4 ∷ 5 ∷ 8 ∷ 9 ∷ 10 ∷ 11 ∷ 8 ∷ 5 ∷ 6 ∷ 7 ∷ []) ∷ [])
+    × (map (λ (p : PairParts). p.gap) branch ≡ 0 ∷ []) × (sides_from branching 0 under_two ≡ (1, 4) ∷ (2, 10) ∷ [])
 unfolding oriented ring_from depth is_inside least_bridge distance_square square
 branches = (refl, refl, refl)
 
 -- a side of 4,096 vertices is not too long, and one of 4,097 is
-limits : (IsShort (1, 4096)) × (IsShort (1, 4097) → ⊥) × (HasLongSide (2, 4097) (Composite 2 4097)) × (HasLongSide (2, 4096) (Composite 2 4096) → ⊥) × (HasLongSide (2, 4097) (Composite 1 4097) → ⊥) × (HasLongSide (2, 4097) NoMemory → ⊥)
-limits = (omega arith, (λ h. omega (arith, h)), (refl, refl, omega arith), (λ h. omega (arith, h.2)), (λ h. omega (arith, h.0)), λ h. h)
+limits : (IsShort (1, 4096)) × (IsShort (1, 4097) → ⊥) × (HasLongSide (2, 4097) (Composite 2 4097))
+    × (HasLongSide (2, 4096) (Composite 2 4096) → ⊥) × (HasLongSide (2, 4097) (Composite 1 4097) → ⊥)
+    × (HasLongSide (2, 4097) NoMemory → ⊥)
+limits = (
+  omega arith,
+  (λ h. omega (arith, h)),
+  (refl, refl, omega arith),
+  (λ h. omega (arith, h.2)),
+  (λ h. omega (arith, h.0)),
+  λ h. h,
+)
 
 abbrev ring : ℕ → RingView
 ring id = record { points = []; ids = id ∷ [] }

@@ -21,7 +21,13 @@ link below above = record { below = below ∷ []; above = above ∷ [] }
 -- squares whose one link names an unknown contour
 unknown : IsFirstBad (linked (link 97 122 ∷ [])) 0 (97 ∷ []) (122 ∷ []) Unknown
 unfolding cause_of depth is_inside link
-unknown = record { there = omega arith; good_before = λ k l. absurd (omega (arith, l)); cause = refl; below = refl; above = refl }
+unknown = record {
+  there = omega arith;
+  good_before = λ k l. absurd (omega (arith, l));
+  cause = refl;
+  below = refl;
+  above = refl;
+}
 
 bad_link : IsFound (linked (link 97 122 ∷ [])) (Link (97 ∷ []) (122 ∷ []) Unknown)
 bad_link = IsFound.in_links (97 ∷ []) (122 ∷ []) Unknown 0 sound unknown
@@ -43,10 +49,27 @@ edges_0_and_1 = (
   record {
     ordered = omega arith;
     within = omega arith;
-    related = following refl (record { s = 4; t = 9; e = 9; at = record { positive = omega arith; on_first = omega arith; on_second = omega arith; x = refl; y = refl }; more = λ f. absurd (omega (arith, f)) });
+    related = following refl (record {
+      s = 4;
+      t = 9;
+      e = 9;
+      at =
+          record { positive = omega arith; on_first = omega arith; on_second = omega arith; x = refl; y = refl };
+      more =
+          λ f. absurd (omega (arith, f));
+    });
     first = λ g h l k b r. elim b [ inl lt ↦ omega (arith, lt) | inr same ↦ omega (arith, l, same.0, same.1) ];
   },
 )
 
 bad_contour : IsFound turned_back (SelfCrossing (97 ∷ []) 0 1)
-bad_contour = IsFound.in_contours (SelfCrossing (97 ∷ []) 0 1) (inl (record { before = []; item = (97 ∷ [], back_at); after = []; split = refl; good_before = All-nil IsSimpleContour; has = edges_0_and_1 }))
+bad_contour = IsFound.in_contours (SelfCrossing (97 ∷ []) 0 1)
+    (inl (record {
+      before = [];
+      item = (97 ∷ [], back_at);
+      after = [];
+      split = refl;
+      good_before =
+          All-nil IsSimpleContour;
+      has = edges_0_and_1;
+    }))

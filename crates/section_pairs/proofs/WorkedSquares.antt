@@ -37,7 +37,8 @@ turns : (a b d : Point) → side a b d ≡ pos 100 → ShareMore a b d → ⊥
 turns a b d e m = let z : pos 100 ≡ pos 0 = sym e ∙ (steps_back a b d m).line in absurd (cc)
 
 beyond : (a b c d : Point) → side a b c ≡ pos 100 → side a b d ≡ pos 100 → SharePoint a b c d → ⊥
-beyond a b c d e f m = elim (opposite_sides a b c d m).0 [ inl h ↦ omega (arith, ints, e, h.0) | inr h ↦ omega (arith, ints, f, h.0) ]
+beyond a b c d e f m = elim (opposite_sides a b c d m).0
+    [ inl h ↦ omega (arith, ints, e, h.0) | inr h ↦ omega (arith, ints, f, h.0) ]
 
 square_simple : (z : ℕ) → IsSimple (square_at z)
 unfolding around
@@ -83,7 +84,26 @@ unfolding depth is_inside around
 overlap = record {
   below = omega arith;
   above = omega arith;
-  agree = (refl, inl (record { e = 0; within = omega arith; edge = record { f = 0; within = omega arith; meet = record { s = 0; t = 0; e = 1; at = record { positive = omega arith; on_first = omega arith; on_second = omega arith; x = refl; y = refl } } } }));
+  agree = (
+    refl,
+    inl (record {
+      e = 0;
+      within = omega arith;
+      edge =
+          record {
+            f = 0;
+            within = omega arith;
+            meet =
+                record {
+                  s = 0;
+                  t = 0;
+                  e = 1;
+                  at =
+                      record { positive = omega arith; on_first = omega arith; on_second = omega arith; x = refl; y = refl };
+                };
+          };
+    }),
+  );
 }
 
 gaps : AreGaps squares straight
@@ -93,7 +113,13 @@ gaps = one_gap squares refl refl refl overlap
 
 abbrev pub pair : PairParts
 pair = record {
-  strip = record { low = square_at 0; low_ids = 0 ∷ 1 ∷ 2 ∷ 3 ∷ []; high = square_at 10; high_ids = 4 ∷ 5 ∷ 6 ∷ 7 ∷ []; cost = Span };
+  strip = record {
+    low = square_at 0;
+    low_ids = 0 ∷ 1 ∷ 2 ∷ 3 ∷ [];
+    high = square_at 10;
+    high_ids = 4 ∷ 5 ∷ 6 ∷ 7 ∷ [];
+    cost = Span;
+  };
   gap = 0;
   below = 0 ∷ [];
   above = 0 ∷ [];
@@ -111,4 +137,11 @@ short : All IsShort (sides_from squares 0 straight)
 short = subst (All IsShort) (sym its_sides) (two_short 4 4 (omega arith) (omega arith))
 
 pub squares_paired : ArePairs squares (pair ∷ [])
-squares_paired = record { linked = squares_linked; gaps = straight; are_gaps = gaps; short = short; pairs = sym its_pair }
+squares_paired = record {
+  linked = squares_linked;
+  gaps = straight;
+  are_gaps = gaps;
+  short = short;
+  pairs =
+      sym its_pair;
+}

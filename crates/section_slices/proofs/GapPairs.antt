@@ -18,33 +18,43 @@ use Rattle.section_slices.specs.Slices.{pairs_in_gap, loops_at}
 abbrev pub strips_so_far : ℕ → List GapPair → ℕ → List Strip
 strips_so_far g ps i = strips_in (pairs_in_gap g (map pair_parts (take i ps)))
 
-pub strips_more : (g : ℕ) (ps : List GapPair) (i : ℕ) (p : GapPair) → i < length ps → p ≡ get_or ps i p → strips_so_far g ps (i + 1) ≡ strips_so_far g ps i ++ cond (p.gap == g) (p.pair ∷ []) []
+pub strips_more : (g : ℕ) (ps : List GapPair) (i : ℕ) (p : GapPair) → i < length ps → p ≡ get_or ps i p
+    → strips_so_far g ps (i + 1) ≡ strips_so_far g ps i ++ cond (p.gap == g) (p.pair ∷ []) []
 strips_more g ps i p l e = passed_more (λ (q : PairParts). q.gap == g) ps i p l e
 
 -- the loops of the pairs from a place on
-loops_drop : (d t : ℕ) (ps : List Strip) (xs : List Solution) (i : ℕ) (p : Strip) (x : Solution) → i < length ps → i < length xs → p ≡ get_or ps i p → x ≡ get_or xs i x
-    → loops_at d t (drop i ps) (drop i xs) ≡ slice_loop p d t x.row 0 x.word ∷ loops_at d t (drop (i + 1) ps) (drop (i + 1) xs)
+loops_drop : (d t : ℕ) (ps : List Strip) (xs : List Solution) (i : ℕ) (p : Strip) (x : Solution) → i < length ps
+    → i < length xs → p ≡ get_or ps i p → x ≡ get_or xs i x
+    → loops_at d t (drop i ps) (drop i xs) ≡ slice_loop p d t x.row 0 x.word
+    ∷ loops_at d t (drop (i + 1) ps) (drop (i + 1) xs)
 loops_drop d t ps xs i p x l m ep ex = ap₂ (loops_at d t) (drop_next ps i p l ep) (drop_next xs i x m ex)
 
 -- the points of the loops that the code holds
 abbrev pub points_of : List (Vec Cut Global) → List (List Cut)
 points_of loops = map (λ (l : Vec Cut Global). l.items) loops
 
-pub loops_step : (d t : ℕ) (ps : List Strip) (xs : List Solution) (i : ℕ) (p : Strip) (x : Solution) (v : Vec Cut Global) (so_far now : List (Vec Cut Global)) (whole : List (List Cut)) → i < length ps → i < length xs → p ≡ get_or ps i p → x ≡ get_or xs i x
-    → v.items ≡ slice_loop p d t x.row 0 x.word → now ≡ so_far ++ v ∷ [] → points_of so_far ++ loops_at d t (drop i ps) (drop i xs) ≡ whole → points_of now ++ loops_at d t (drop (i + 1) ps) (drop (i + 1) xs) ≡ whole
+pub loops_step : (d t : ℕ) (ps : List Strip) (xs : List Solution) (i : ℕ) (p : Strip) (x : Solution)
+    (v : Vec Cut Global) (so_far now : List (Vec Cut Global)) (whole : List (List Cut)) → i < length ps → i < length xs
+    → p ≡ get_or ps i p → x ≡ get_or xs i x
+    → v.items ≡ slice_loop p d t x.row 0 x.word → now ≡ so_far ++ v ∷ []
+    → points_of so_far ++ loops_at d t (drop i ps) (drop i xs) ≡ whole
+    → points_of now ++ loops_at d t (drop (i + 1) ps) (drop (i + 1) xs) ≡ whole
 loops_step d t ps xs i p x v so_far now whole l m ep ex ev n w =
     let rest : List (List Cut) = loops_at d t (drop (i + 1) ps) (drop (i + 1) xs) in
-    ap (λ (ls : List (List Cut)). ls ++ rest) (ap points_of n ∙ map-append (λ (l : Vec Cut Global). l.items) so_far (v ∷ []))
+    ap (λ (ls : List (List Cut)). ls ++ rest)
+    (ap points_of n ∙ map-append (λ (l : Vec Cut Global). l.items) so_far (v ∷ []))
     ∙ append_assoc (points_of so_far) (v.items ∷ []) rest
     ∙ ap (λ (c : List Cut). points_of so_far ++ c ∷ rest) ev
     ∙ ap (λ (ls : List (List Cut)). points_of so_far ++ ls) (sym (loops_drop d t ps xs i p x l m ep ex)) ∙ w
 
-pub loops_end : (d t : ℕ) (ps : List Strip) (xs : List Solution) (i : ℕ) (made whole : List (List Cut)) → length ps ≤ i → made ++ loops_at d t (drop i ps) (drop i xs) ≡ whole → made ≡ whole
+pub loops_end : (d t : ℕ) (ps : List Strip) (xs : List Solution) (i : ℕ) (made whole : List (List Cut)) → length ps ≤ i
+    → made ++ loops_at d t (drop i ps) (drop i xs) ≡ whole → made ≡ whole
 loops_end d t ps xs i made whole l w =
     sym (append-nil made) ∙ ap (λ (qs : List Strip). made ++ loops_at d t qs (drop i xs)) (sym (drop_all i ps l)) ∙ w
 
 -- the solution at a pair's index starts in one of its rows
-pub row_there : (ps : List Strip) (xs : List Solution) → SolvesEach ps xs → (i : ℕ) (p : Strip) (x : Solution) → i < length ps → p ≡ get_or ps i p → x ≡ get_or xs i x → x.row < rows p
+pub row_there : (ps : List Strip) (xs : List Solution) → SolvesEach ps xs → (i : ℕ) (p : Strip) (x : Solution)
+    → i < length ps → p ≡ get_or ps i p → x ≡ get_or xs i x → x.row < rows p
 row_there ps xs h i p x l ep ex =
     let s : Solves (get_or ps i p) (get_or xs i x) = h.each i p x l in
     let t : Solves p x = subst (λ (q : Strip). Solves q x) (sym ep) (subst (Solves (get_or ps i p)) (sym ex) s) in

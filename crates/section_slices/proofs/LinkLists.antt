@@ -18,15 +18,21 @@ pub record AreFrontLinks (S : Parts) (pairs : List PairParts) (n : ℕ) (links :
 pub no_gap : (S : Parts) (pairs : List PairParts) → AreFrontLinks S pairs 0 []
 no_gap S pairs = record { gaps = []; count = refl; each = λ g d l. absurd (omega arith); all = refl }
 
-pub one_gap : (S : Parts) (pairs : List PairParts) (n m : ℕ) (old more new : List LinkParts) → AreFrontLinks S pairs n old → AreLinksOf S pairs n more → new ≡ old ++ more → m ≡ n + 1 → AreFrontLinks S pairs m new
+pub one_gap : (S : Parts) (pairs : List PairParts) (n m : ℕ) (old more new : List LinkParts)
+    → AreFrontLinks S pairs n old → AreLinksOf S pairs n more → new ≡ old ++ more → m ≡ n + 1
+    → AreFrontLinks S pairs m new
 one_gap S pairs n m old more new h k e em = record {
   gaps = h.gaps ++ more ∷ [];
   count = omega (arith, length-append h.gaps (more ∷ []), h.count, em);
-  each = each_more (AreLinksOf S pairs) h.gaps more h.each (subst (λ (g : ℕ). AreLinksOf S pairs g more) (sym h.count) k);
-  all = e ∙ ap (λ (ls : List LinkParts). ls ++ more) h.all ∙ sym (flat_map-append (λ (ls : List LinkParts). ls) h.gaps (more ∷ []) ∙ ap (λ (ls : List LinkParts). flat_map (λ (l : List LinkParts). l) h.gaps ++ ls) (append-nil more));
+  each = each_more (AreLinksOf S pairs) h.gaps more h.each
+      (subst (λ (g : ℕ). AreLinksOf S pairs g more) (sym h.count) k);
+  all = e ∙ ap (λ (ls : List LinkParts). ls ++ more) h.all
+      ∙ sym (flat_map-append (λ (ls : List LinkParts). ls) h.gaps (more ∷ [])
+      ∙ ap (λ (ls : List LinkParts). flat_map (λ (l : List LinkParts). l) h.gaps ++ ls) (append-nil more));
 }
 
-pub all_gaps : (S : Parts) (pairs : List PairParts) (n : ℕ) (links : List LinkParts) → n + 1 ≡ length S.sections → AreFrontLinks S pairs n links → AreAllLinks S pairs links
+pub all_gaps : (S : Parts) (pairs : List PairParts) (n : ℕ) (links : List LinkParts) → n + 1 ≡ length S.sections
+    → AreFrontLinks S pairs n links → AreAllLinks S pairs links
 all_gaps S pairs n links e h = record {
   gaps = h.gaps;
   are = record { count = omega (arith, e, h.count); each = λ g l. h.each g [] l };

@@ -16,8 +16,10 @@ use Rattle.section_slices.specs.Marks.{AreAllLinks}
 abbrev with_parts : Parts → List SectionParts → List LinkParts → Parts
 with_parts S sections links = record { cost = S.cost; rule = Links; sections = sections; links = links }
 
-pub is_made : (S : Parts) (ps : List PairParts) (outlines : List (List Spot)) (sections : List Section) (links : List Link) → ArePairs S ps → AreMiddleOutlines S ps outlines
-    → map section_parts sections ≡ flat_map (section_and_middle S ps outlines) (range_with_len 0 (length S.sections)) → AreAllLinks S ps (map link_parts links)
+pub is_made : (S : Parts) (ps : List PairParts) (outlines : List (List Spot)) (sections : List Section)
+    (links : List Link) → ArePairs S ps → AreMiddleOutlines S ps outlines
+    → map section_parts sections ≡ flat_map (section_and_middle S ps outlines) (range_with_len 0 (length S.sections))
+    → AreAllLinks S ps (map link_parts links)
     → IsDensified S (ended_parts S.cost Links sections links)
 is_made S ps outlines sections links h o e l = record {
   pairs = ps;

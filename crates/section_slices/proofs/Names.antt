@@ -12,5 +12,8 @@ use Rattle.section_slices.specs.Densified.{middle_name}
 -- each is a name
 pub name_is : (k : ℕ) → k < MAX_PAIRS → is_name (middle_name k) ≡ true
 name_is k h =
-    let l : length (middle_name k) ≤ MAX_NAME_BYTES = omega (arith, length-decimal-le 5 (k + 1) (omega arith) (omega arith) (omega arith)) in
-    ap₂ (λ (a b : Bool). a && b) (ap₂ (λ (a b : Bool). a && b) (le-leb 1 (length (middle_name k)) (omega arith)) (le-leb (length (middle_name k)) MAX_NAME_BYTES l)) (digits_name (decimal (k + 1)) (digits_decimal numerals (k + 1) (omega arith)))
+    let l : length (middle_name k) ≤ MAX_NAME_BYTES =
+    omega (arith, length-decimal-le 5 (k + 1) (omega arith) (omega arith) (omega arith)) in
+    ap₂ (λ (a b : Bool). a && b) (ap₂ (λ (a b : Bool). a && b) (le-leb 1 (length (middle_name k)) (omega arith))
+    (le-leb (length (middle_name k)) MAX_NAME_BYTES l))
+    (digits_name (decimal (k + 1)) (digits_decimal numerals (k + 1) (omega arith)))

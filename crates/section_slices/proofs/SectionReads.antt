@@ -14,11 +14,15 @@ use Rattle.section_slices.proofs.DenseGaps.{not_above}
 pub count_is : (S : Parts) (ss : List Section) → map section_parts ss ≡ S.sections → length ss ≡ length S.sections
 count_is S ss e = sym (length-map ss section_parts) ∙ ap length e
 
-pub section_read : (S : Parts) (ss : List Section) (k : ℕ) (s : Section) → map section_parts ss ≡ S.sections → k < length ss → s ≡ get_or ss k s → section_at S k ≡ section_parts s
+pub section_read : (S : Parts) (ss : List Section) (k : ℕ) (s : Section) → map section_parts ss ≡ S.sections
+    → k < length ss → s ≡ get_or ss k s → section_at S k ≡ section_parts s
 section_read S ss k s e l h =
     let blank : SectionParts = record { z = pos 0; contours = [] } in
-    ap (λ (xs : List SectionParts). get_or xs k blank) (sym e) ∙ get_or-map section_parts ss k s blank l ∙ ap section_parts (sym h)
+    ap (λ (xs : List SectionParts). get_or xs k blank) (sym e) ∙ get_or-map section_parts ss k s blank l
+    ∙ ap section_parts (sym h)
 
 -- a dense gap lies below a section
-pub dense_below : (S : Parts) (g : ℕ) (ps : List GapPair) → All (λ p. p.gap + 1 < length S.sections) ps → is_dense S (map pair_parts ps) g ≡ true → g + 1 < length S.sections
-dense_below S g ps h e = elim (cases_lt (g + 1) (length S.sections)) [ inl l ↦ l | inr m ↦ absurd (both_ways (is_dense S (map pair_parts ps) g) (not_above S g ps h m) e) ]
+pub dense_below : (S : Parts) (g : ℕ) (ps : List GapPair) → All (λ p. p.gap + 1 < length S.sections) ps
+    → is_dense S (map pair_parts ps) g ≡ true → g + 1 < length S.sections
+dense_below S g ps h e = elim (cases_lt (g + 1) (length S.sections))
+    [ inl l ↦ l | inr m ↦ absurd (both_ways (is_dense S (map pair_parts ps) g) (not_above S g ps h m) e) ]

@@ -28,15 +28,22 @@ tested T NoMemory h = tt
 tested T fault (inl e) = absurd (cc)
 tested T fault (inr h) = h
 
-pub of_make : (cost : CostParts) (rule : PairRule) (sections : List Section) (links : List Link) (fault : Fault) → IsMakeFault cost rule sections links fault → IsRemakeFault cost rule sections links (middle_fault fault)
+pub of_make : (cost : CostParts) (rule : PairRule) (sections : List Section) (links : List Link) (fault : Fault)
+    → IsMakeFault cost rule sections links fault → IsRemakeFault cost rule sections links (middle_fault fault)
 of_make cost rule sections links NoMemory k = tt
 of_make cost rule sections links fault k = of_parts fault k (λ e. absurd (cc))
 
-pub of_test : (cost : CostParts) (rule : PairRule) (sections : List Section) (links : List Link) (fault : DensifyFault) → IsAccepted (ended_parts cost rule sections links) → IsTestFault (ended_parts cost rule sections links) fault → IsRemakeFault cost rule sections links fault
+pub of_test : (cost : CostParts) (rule : PairRule) (sections : List Section) (links : List Link) (fault : DensifyFault)
+    → IsAccepted (ended_parts cost rule sections links) → IsTestFault (ended_parts cost rule sections links) fault
+    → IsRemakeFault cost rule sections links fault
 of_test cost rule sections links (Mid fault) a k = of_sections fault a k
 of_test cost rule sections links fault a k = k
 
 -- the same for a result
-pub retold : (made : Parts) (cost : CostParts) (rule : PairRule) (sections : List Section) (links : List Link) (r : Result Parts DensifyFault) → made ≡ ended_parts cost rule sections links → IsAccepted (ended_parts cost rule sections links) → IfErr r (IsTestFault made) → IfErr r (IsRemakeFault cost rule sections links)
+pub retold : (made : Parts) (cost : CostParts) (rule : PairRule) (sections : List Section) (links : List Link)
+    (r : Result Parts DensifyFault) → made ≡ ended_parts cost rule sections links
+    → IsAccepted (ended_parts cost rule sections links) → IfErr r (IsTestFault made)
+    → IfErr r (IsRemakeFault cost rule sections links)
 retold made cost rule sections links (Ok v) e a k = tt
-retold made cost rule sections links (Err fault) e a k = of_test cost rule sections links fault a (subst (λ (T : Parts). IsTestFault T fault) e k)
+retold made cost rule sections links (Err fault) e a k =
+    of_test cost rule sections links fault a (subst (λ (T : Parts). IsTestFault T fault) e k)

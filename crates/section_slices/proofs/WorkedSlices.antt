@@ -26,7 +26,12 @@ abbrev turned_at : ℕ → List Point
 turned_at z = corner 10 10 z ∷ corner 0 10 z ∷ corner 0 0 z ∷ corner 10 0 z ∷ []
 
 abbrev between : List Point → List Point → ℕ → PairParts
-between low high gap = record { strip = record { low = low; low_ids = []; high = high; high_ids = []; cost = Span }; gap = gap; below = 0 ∷ []; above = 0 ∷ [] }
+between low high gap = record {
+  strip = record { low = low; low_ids = []; high = high; high_ids = []; cost = Span };
+  gap = gap;
+  below = 0 ∷ [];
+  above = 0 ∷ [];
+}
 
 -- two equal squares below, and a turned one above
 abbrev three : List PairParts
@@ -42,12 +47,16 @@ abbrev point : ℕ → ℕ → Cut
 point x y = record { x = pos x; y = pos y }
 
 -- 3 above the lowest square
-pub squares_loop : loops_at 10 3 (strips_in (pairs_in_gap 0 three)) (straight ∷ []) ≡ (point 0 0 ∷ point 70 0 ∷ point 100 0 ∷ point 100 70 ∷ point 100 100 ∷ point 30 100 ∷ point 0 100 ∷ point 0 30 ∷ []) ∷ []
+pub squares_loop : loops_at 10 3 (strips_in (pairs_in_gap 0 three)) (straight ∷ [])
+    ≡ (point 0 0 ∷ point 70 0 ∷ point 100 0 ∷ point 100 70 ∷ point 100 100 ∷ point 30 100 ∷ point 0 100 ∷ point 0 30
+    ∷ []) ∷ []
 unfolding around
 squares_loop = refl
 
 -- half way up to the turned square, from row 1 on
-pub turned_loop : loops_at 10 5 (strips_in (pairs_in_gap 1 three)) (turned ∷ []) ≡ (point 100 50 ∷ point 100 100 ∷ point 50 100 ∷ point 0 100 ∷ point 0 50 ∷ point 0 0 ∷ point 50 0 ∷ point 100 0 ∷ []) ∷ []
+pub turned_loop : loops_at 10 5 (strips_in (pairs_in_gap 1 three)) (turned ∷ [])
+    ≡ (point 100 50 ∷ point 100 100 ∷ point 50 100 ∷ point 0 100 ∷ point 0 50 ∷ point 0 0 ∷ point 50 0 ∷ point 100 0
+    ∷ []) ∷ []
 unfolding around
 turned_loop = refl
 
@@ -57,7 +66,13 @@ no_loop = refl
 
 -- sections at the heights 0 and 10, without contours
 abbrev two : Parts
-two = record { cost = span; rule = Overlap; sections = record { z = pos 0; contours = [] } ∷ record { z = pos 10; contours = [] } ∷ []; links = [] }
+two = record {
+  cost = span;
+  rule = Overlap;
+  sections =
+      record { z = pos 0; contours = [] } ∷ record { z = pos 10; contours = [] } ∷ [];
+  links = [];
+}
 
 pub at_five : IsGapAt two (pos 5) 0
 at_five = record { there = omega arith; above_low = omega (arith, ints); below_high = omega (arith, ints) }
@@ -66,10 +81,12 @@ pub at_ten : IsHeightFault two (pos 10) (OnSection (pos 10))
 at_ten = on_section (1, omega arith, refl)
 
 pub at_minus_one : IsHeightFault two (negsuc 0) (Outside (negsuc 0))
-at_minus_one = outside (inl (All-from_recursion (λ (s : SectionParts). negsuc 0 <ℤ s.z) two.sections (omega (arith, ints), (omega (arith, ints), tt))))
+at_minus_one = outside (inl (All-from_recursion (λ (s : SectionParts). negsuc 0 <ℤ s.z) two.sections
+    (omega (arith, ints), (omega (arith, ints), tt))))
 
 pub at_eleven : IsHeightFault two (pos 11) (Outside (pos 11))
-at_eleven = outside (inr (All-from_recursion (λ (s : SectionParts). s.z <ℤ pos 11) two.sections (omega (arith, ints), (omega (arith, ints), tt))))
+at_eleven = outside (inr (All-from_recursion (λ (s : SectionParts). s.z <ℤ pos 11) two.sections
+    (omega (arith, ints), (omega (arith, ints), tt))))
 
 -- a height between them is neither outside nor that of a section, and the height of a section lies in no gap
 not_outside : IsOutside two (pos 5) → ⊥

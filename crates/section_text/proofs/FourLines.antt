@@ -22,7 +22,8 @@ use Rattle.section_text.proofs.FrontLemmas.{Passed, pass_one, pass_longer}
 use Rattle.section_core.proofs.Walking.{not_memory}
 
 -- the first of lines that match
-zip_take : (n : ℕ) (lines : List Line) (front : List (List Word)) → AllZip Matches lines front → AllZip Matches (take n lines) (take n front)
+zip_take : (n : ℕ) (lines : List Line) (front : List (List Word)) → AllZip Matches lines front
+    → AllZip Matches (take n lines) (take n front)
 zip_take zero lines front m = tt
 zip_take (suc n) [] [] m = tt
 zip_take (suc n) (line ∷ lines) (ws ∷ front) m = (m.0, zip_take n lines front m.1)
@@ -35,7 +36,8 @@ take_split (suc n) [] rest = refl
 take_split (suc n) (ws ∷ front) rest = ap (λ (all : List (List Word)). ws ∷ all) (take_split n front rest)
 
 -- the first of lines that begin well do
-begins_take : (w : Version) (laws : List Law) (n : ℕ) (lines : List Line) → Begins w laws lines → Begins w laws (take n lines)
+begins_take : (w : Version) (laws : List Law) (n : ℕ) (lines : List Line) → Begins w laws lines
+    → Begins w laws (take n lines)
 begins_take w laws n lines b = record {
   parts = b.parts;
   is_file = b.is_file;
@@ -47,19 +49,25 @@ begins_take w laws n lines b = record {
   match = zip_take n lines b.front b.match;
 }
 
-pub four_of : (w : Version) (front rest : List Kept) → 4 ≤ length front → Begins w law_order (lines_of front) → HasFourLines w (front ++ rest)
+pub four_of : (w : Version) (front rest : List Kept) → 4 ≤ length front → Begins w law_order (lines_of front)
+    → HasFourLines w (front ++ rest)
 four_of w [] rest n b = absurd (omega arith)
 four_of w (h ∷ []) rest n b = absurd (omega arith)
 four_of w (h ∷ i ∷ []) rest n b = absurd (omega arith)
 four_of w (h ∷ i ∷ j ∷ []) rest n b = absurd (omega arith)
-four_of w (h ∷ i ∷ j ∷ k ∷ front) rest n b = (omega arith, begins_take w law_order 4 (lines_of (h ∷ i ∷ j ∷ k ∷ front)) b)
+four_of w (h ∷ i ∷ j ∷ k ∷ front) rest n b =
+    (omega arith, begins_take w law_order 4 (lines_of (h ∷ i ∷ j ∷ k ∷ front)) b)
 
 -- lines that are passed have no fault
-passed_four : (w : Version) (kept rest : List Kept) (state : State) (p : Passed w kept rest state) → 4 ≤ length p.before → HasFourLines w kept
-passed_four w kept rest state p n = subst (HasFourLines w) (sym p.split) (four_of w p.before rest n (begins-of_state w law_order (lines_of p.before) state p.leads p.keeps))
+passed_four : (w : Version) (kept rest : List Kept) (state : State) (p : Passed w kept rest state) → 4 ≤ length p.before
+    → HasFourLines w kept
+passed_four w kept rest state p n =
+    subst (HasFourLines w) (sym p.split)
+    (four_of w p.before rest n (begins-of_state w law_order (lines_of p.before) state p.leads p.keeps))
 
 -- each line that was passed said an item
-passed_items : (w : Version) (kept rest : List Kept) (state : State) (p : Passed w kept rest state) → length (so_far state) ≡ length p.before
+passed_items : (w : Version) (kept rest : List Kept) (state : State) (p : Passed w kept rest state)
+    → length (so_far state) ≡ length p.before
 passed_items w kept rest state p =
     let said = lines_said w at_version (lines_of p.before) state tt p.leads in
     ap length (so_far-run w at_version said.items state said.leads)
@@ -78,18 +86,31 @@ behind_three (ended F) h = omega arith
 ended_four : (F : FileParts) → 4 ≤ length (so_far (ended F))
 ended_four F = omega (arith, length-append (flat_map (object_items F.version F.rule) F.objects) (finish ∷ []))
 
-line_four : (w : Version) (kept rest : List Kept) (k : Kept) (state : State) (t : Tally) (r : Result State Breach) → judge w state k.1 ≡ r → Passed w kept (k ∷ rest) state → TakesLine k.0 r (Err NoMemory) t → IsBehindHead state → HasFourLines w kept
+line_four : (w : Version) (kept rest : List Kept) (k : Kept) (state : State) (t : Tally) (r : Result State Breach)
+    → judge w state k.1 ≡ r → Passed w kept (k ∷ rest) state → TakesLine k.0 r (Err NoMemory) t → IsBehindHead state
+    → HasFourLines w kept
 line_four w kept rest k state t (Err b) j p takes h = absurd (not_memory b k.0 takes)
 line_four w kept rest k state t (Ok next) j p takes h =
     passed_four w kept rest next (pass_one w kept rest k state next j p)
-    (omega (arith, pass_longer w kept rest k state next j p, passed_items w kept (k ∷ rest) state p, behind_three state h))
+    (omega (
+      arith,
+      pass_longer w kept rest k state next j p,
+      passed_items w kept (k ∷ rest) state p,
+      behind_three state h,
+    ))
 
 -- memory ran out at a line
-pub line_memory : (w : Version) (text : List ℕ) (rest : List Kept) (k : Kept) (state : State) (fault : Fault) (t : Tally) → Passed w (kept_lines text) (k ∷ rest) state → TakesLine k.0 (judge w state k.1) (Err fault) t → IsLineMemory state fault → IsReadMemory w text fault
-line_memory w text rest k state NoMemory t p takes h = line_four w (kept_lines text) rest k state t (judge w state k.1) refl p takes h
+pub line_memory : (w : Version) (text : List ℕ) (rest : List Kept) (k : Kept) (state : State) (fault : Fault)
+    (t : Tally) → Passed w (kept_lines text) (k ∷ rest) state → TakesLine k.0 (judge w state k.1) (Err fault) t
+    → IsLineMemory state fault → IsReadMemory w text fault
+line_memory w text rest k state NoMemory t p takes h =
+    line_four w (kept_lines text) rest k state t (judge w state k.1) refl p takes h
 line_memory w text rest k state fault t p takes h = tt
 
 -- memory ran out at the end
-pub end_memory : (w : Version) (text : List ℕ) (rest : List Kept) (F : FileParts) (fault : Fault) → Passed w (kept_lines text) rest (ended F) → IsReadMemory w text fault
-end_memory w text rest F NoMemory p = passed_four w (kept_lines text) rest (ended F) p (subst (λ (n : ℕ). 4 ≤ n) (passed_items w (kept_lines text) rest (ended F) p) (ended_four F))
+pub end_memory : (w : Version) (text : List ℕ) (rest : List Kept) (F : FileParts) (fault : Fault)
+    → Passed w (kept_lines text) rest (ended F) → IsReadMemory w text fault
+end_memory w text rest F NoMemory p =
+    passed_four w (kept_lines text) rest (ended F) p
+    (subst (λ (n : ℕ). 4 ≤ n) (passed_items w (kept_lines text) rest (ended F) p) (ended_four F))
 end_memory w text rest F fault p = tt

@@ -24,27 +24,32 @@ value_push n (x ∷ xs) b = value_push (10 * n + (x - 48)) xs b
 pub pow_next : (k : ℕ) → 10 ^ (k + 1) ≡ 10 ^ k * 10
 pow_next k = simp unary_clauses refl
 
-pub value_next : (text : List ℕ) (k b : ℕ) → k < length text → b ≡ get_or text k b → value_after 0 (take (k + 1) text) ≡ 10 * value_after 0 (take k text) + (b - 48)
+pub value_next : (text : List ℕ) (k b : ℕ) → k < length text → b ≡ get_or text k b
+    → value_after 0 (take (k + 1) text) ≡ 10 * value_after 0 (take k text) + (b - 48)
 value_next text k b l e = ap (value_after 0) (take_next text k b l e) ∙ value_push 0 (take k text) b
 
 -- ---- numbers
 -- digits are a number
-pub unsigned_before : (text : List ℕ) (n : ℤ) (rest : List ℕ) → AreDigitsBefore text false n rest → IsNumberBefore text n rest
+pub unsigned_before : (text : List ℕ) (n : ℤ) (rest : List ℕ) → AreDigitsBefore text false n rest
+    → IsNumberBefore text n rest
 unsigned_before text n rest h = at h.digits h.whole h.are h.value
   where
-    at : (ds : List ℕ) → text ≡ ds ++ rest → are_digits ds ≡ true → n ≡ signed false (value_after 0 ds) → IsNumberBefore text n rest
+    at : (ds : List ℕ) → text ≡ ds ++ rest → are_digits ds ≡ true → n ≡ signed false (value_after 0 ds)
+        → IsNumberBefore text n rest
     at [] w a v = absurd (search (a, rules))
     at (d ∷ ds) w a v = record {
       word = d ∷ ds;
       whole = w;
       some = omega arith;
       solid = digits_solid (d ∷ ds) a;
-      number = plain_read (d ∷ ds) (value_after 0 (d ∷ ds)) a (omega arith) (cond-true _ _ _ a) ∙ ap (λ (z : ℤ). Some z) (sym v);
+      number = plain_read (d ∷ ds) (value_after 0 (d ∷ ds)) a (omega arith) (cond-true _ _ _ a)
+          ∙ ap (λ (z : ℤ). Some z) (sym v);
       in_range = h.in_range;
     }
 
 -- a minus and digits are a number
-pub signed_before : (text digits : List ℕ) (n : ℤ) (rest : List ℕ) → text ≡ 45 ∷ digits → AreDigitsBefore digits true n rest → IsNumberBefore text n rest
+pub signed_before : (text digits : List ℕ) (n : ℤ) (rest : List ℕ) → text ≡ 45 ∷ digits
+    → AreDigitsBefore digits true n rest → IsNumberBefore text n rest
 signed_before text digits n rest e h = record {
   word = 45 ∷ h.digits;
   whole = e ∙ ap (λ (bs : List ℕ). 45 ∷ bs) h.whole;
@@ -68,21 +73,30 @@ some_digits [] a = absurd (search (a, rules))
 some_digits (d ∷ ds) a = omega arith
 
 -- as many digits as come first, but for a limit
-ends_at : (ds rest : List ℕ) (n limit : ℕ) → list_all is_digit ds ≡ true → length ds ≤ limit → BeginsNoDigit rest → n ≤ limit → n ≤ length (ds ++ rest) → list_all is_digit (take n (ds ++ rest)) ≡ true
+ends_at : (ds rest : List ℕ) (n limit : ℕ) → list_all is_digit ds ≡ true → length ds ≤ limit → BeginsNoDigit rest
+    → n ≤ limit → n ≤ length (ds ++ rest) → list_all is_digit (take n (ds ++ rest)) ≡ true
     → (n < limit → n < length (ds ++ rest) → is_digit (get_or (ds ++ rest) n 0) ≡ false) → n ≡ length ds
 ends_at [] [] n limit a l e few there digits last = omega (arith, there)
 ends_at [] (b ∷ bs) zero limit a l e few there digits last = refl
-ends_at [] (b ∷ bs) (suc n) limit a l e few there digits last = absurd (false≢true (sym e ∙ (and_parts (is_digit b) (list_all is_digit (take n bs)) digits).0))
-ends_at (d ∷ ds) rest zero limit a l e few there digits last = absurd (false≢true (sym (last (omega (arith, l)) (omega arith)) ∙ (and_parts (is_digit d) (list_all is_digit ds) a).0))
+ends_at [] (b ∷ bs) (suc n) limit a l e few there digits last =
+    absurd (false≢true (sym e ∙ (and_parts (is_digit b) (list_all is_digit (take n bs)) digits).0))
+ends_at (d ∷ ds) rest zero limit a l e few there digits last =
+    absurd (false≢true (sym (last (omega (arith, l)) (omega arith))
+    ∙ (and_parts (is_digit d) (list_all is_digit ds) a).0))
 ends_at (d ∷ ds) rest (suc n) zero a l e few there digits last = absurd (omega (arith, few))
 ends_at (d ∷ ds) rest (suc n) (suc limit) a l e few there digits last =
     ap (λ (k : ℕ). suc k)
-    (ends_at ds rest n limit (and_parts (is_digit d) (list_all is_digit ds) a).1 (omega (arith, l)) e (omega (arith, few)) (omega (arith, there)) (and_parts (is_digit d) (list_all is_digit (take n (ds ++ rest))) digits).1
+    (ends_at ds rest n limit (and_parts (is_digit d) (list_all is_digit ds) a).1 (omega (arith, l)) e
+    (omega (arith, few)) (omega (arith, there))
+    (and_parts (is_digit d) (list_all is_digit (take n (ds ++ rest))) digits).1
     (λ m k. last (omega (arith, m)) (omega (arith, k))))
 
-pub count_is : (text ds rest : List ℕ) (n : ℕ) → text ≡ ds ++ rest → are_digits ds ≡ true → length ds ≤ 6 → BeginsNoDigit rest → n ≤ 6 → n ≤ length text → list_all is_digit (take n text) ≡ true → (n < 6 → n < length text → is_digit (get_or text n 0) ≡ false) → n ≡ length ds
+pub count_is : (text ds rest : List ℕ) (n : ℕ) → text ≡ ds ++ rest → are_digits ds ≡ true → length ds ≤ 6
+    → BeginsNoDigit rest → n ≤ 6 → n ≤ length text → list_all is_digit (take n text) ≡ true
+    → (n < 6 → n < length text → is_digit (get_or text n 0) ≡ false) → n ≡ length ds
 count_is text ds rest n e a l b few there digits last =
-    ends_at ds rest n 6 (all_digits ds a) l b few (subst (λ (t : List ℕ). n ≤ length t) e there) (subst (λ (t : List ℕ). list_all is_digit (take n t) ≡ true) e digits)
+    ends_at ds rest n 6 (all_digits ds a) l b few (subst (λ (t : List ℕ). n ≤ length t) e there)
+    (subst (λ (t : List ℕ). list_all is_digit (take n t) ≡ true) e digits)
     (subst (λ (t : List ℕ). n < 6 → n < length t → is_digit (get_or t n 0) ≡ false) e last)
 
 pub rest_is : (text ds rest : List ℕ) (n : ℕ) → text ≡ ds ++ rest → n ≡ length ds → drop n text ≡ rest
@@ -93,12 +107,14 @@ rest_is text ds rest n e k = ap (drop n) e ∙ ap (λ (j : ℕ). drop j (ds ++ r
 coordinate_held : (z : ℤ) → is_coordinate z ≡ true → to_z w32 (of_z w32 z) ≡ z
 coordinate_held z h = let c = coordinate_is z h in let f : SFits w32 z = omega (arith, ints) in to_z-of_z f
 
-pub coordinates_held : (line : List ℕ) (x y : ℤ) → IsPlainPoint line x y → IsPlainPoint line (to_z w32 (of_z w32 x)) (to_z w32 (of_z w32 y))
+pub coordinates_held : (line : List ℕ) (x y : ℤ) → IsPlainPoint line x y
+    → IsPlainPoint line (to_z w32 (of_z w32 x)) (to_z w32 (of_z w32 y))
 coordinates_held line x y h =
     let both = and_parts (is_coordinate x) (is_coordinate y) h.in_range in
     subst₂ (IsPlainPoint line) (sym (coordinate_held x both.0)) (sym (coordinate_held y both.1)) h
 
-pub two_numbers : (line rest second after : List ℕ) (x y : ℤ) → IsNumberBefore line x rest → rest ≡ 32 ∷ second → IsNumberBefore second y after → length after ≡ 0 → IsPlainPoint line x y
+pub two_numbers : (line rest second after : List ℕ) (x y : ℤ) → IsNumberBefore line x rest → rest ≡ 32 ∷ second
+    → IsNumberBefore second y after → length after ≡ 0 → IsPlainPoint line x y
 two_numbers line rest second [] x y f e s l = record {
   said =
       ap item_of

@@ -13,7 +13,24 @@ use Rattle.cert_checker.proofs.NextLines.{short_none}
 use Rattle.pair_pool.specs.Solvers.{Solver}
 
 -- the pair, the counts, the cost and the start row are in the head; then follow the word and the numbers
-parts : (v : Vec ℤ Global) → certificate_parts (record { pair = 7; cert = record { rows = 3; cols = 4; cost = negsuc 9; tiling = record { row = 2; word = list_at v (V ∷ H ∷ []) tt }; pi = list_at v (pos 5 ∷ negsuc 0 ∷ []) tt } }) ≡ record { head = record { pair = 7; rows = 3; cols = 4; cost = negsuc 9; start = 2 }; word = V ∷ H ∷ []; values = pos 5 ∷ negsuc 0 ∷ [] }
+parts : (v : Vec ℤ Global) → certificate_parts
+    (record {
+      pair = 7;
+      cert = record {
+        rows = 3;
+        cols = 4;
+        cost = negsuc 9;
+        tiling =
+            record { row = 2; word = list_at v (V ∷ H ∷ []) tt };
+        pi = list_at v (pos 5 ∷ negsuc 0 ∷ []) tt;
+      };
+    })
+    ≡ record {
+      head = record { pair = 7; rows = 3; cols = 4; cost = negsuc 9; start = 2 };
+      word = V ∷ H ∷ [];
+      values =
+          pos 5 ∷ negsuc 0 ∷ [];
+    }
 parts v = refl
 
 -- the fault of no text at all, after 16 lines of an input: one past these
@@ -28,7 +45,13 @@ abbrev head : ℕ → ℕ → ℕ → ℤ → ℕ → CertHead
 head pair rows cols cost start = record { pair = pair; rows = rows; cols = cols; cost = cost; start = start }
 
 ends : IsHead (head 65536 4096 4096 (pos (10 ^ 36)) 4095)
-ends = record { pair = (omega arith, omega arith); rows = (omega arith, omega arith); cols = (omega arith, omega arith); cost = omega arith; start = omega arith }
+ends = record {
+  pair = (omega arith, omega arith);
+  rows = (omega arith, omega arith);
+  cols = (omega arith, omega arith);
+  cost = omega arith;
+  start = omega arith;
+}
 
 -- the letters of a word
 letters : IsWord (V ∷ H ∷ [])

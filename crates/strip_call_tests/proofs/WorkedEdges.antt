@@ -13,7 +13,8 @@ four_sides = closed ((0 ∷ 2 ∷ 1 ∷ []) ∷ (0 ∷ 1 ∷ 3 ∷ []) ∷ (1 �
 
 -- two triangles leave over the square that they fill, forwards
 square_forwards : LeavesOver ((3 ∷ 0 ∷ 1 ∷ []) ∷ (1 ∷ 2 ∷ 3 ∷ []) ∷ []) ((0 ∷ 1 ∷ 2 ∷ 3 ∷ []) ∷ []) []
-square_forwards = leaves_over ((3 ∷ 0 ∷ 1 ∷ []) ∷ (1 ∷ 2 ∷ 3 ∷ []) ∷ []) ((0 ∷ 1 ∷ 2 ∷ 3 ∷ []) ∷ []) [] (λ f. omega arith)
+square_forwards = leaves_over ((3 ∷ 0 ∷ 1 ∷ []) ∷ (1 ∷ 2 ∷ 3 ∷ []) ∷ []) ((0 ∷ 1 ∷ 2 ∷ 3 ∷ []) ∷ []) []
+    (λ f. omega arith)
 
 -- the end comes where nothing is left, and a failure takes and appends nothing
 nothing_taken : Takes took.End (Some []) (Some []) (0 ∷ []) × Gives gave.Failed (Some (5 ∷ [])) (Some (5 ∷ [])) (6 ∷ [])

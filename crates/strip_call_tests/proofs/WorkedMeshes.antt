@@ -12,10 +12,16 @@ abbrev below : Surface
 below = record { vertices = corner 0 0 0 ∷ corner 5 0 0 ∷ corner 0 5 0 ∷ []; parts = ((0 ∷ 1 ∷ 2 ∷ []) ∷ []) ∷ [] }
 
 abbrev above : Surface
-above = record { vertices = corner 0 0 9 ∷ corner 5 0 9 ∷ corner 0 5 9 ∷ []; parts = ((0 ∷ 1 ∷ 2 ∷ []) ∷ []) ∷ ((2 ∷ 1 ∷ 0 ∷ []) ∷ []) ∷ [] }
+above = record {
+  vertices = corner 0 0 9 ∷ corner 5 0 9 ∷ corner 0 5 9 ∷ [];
+  parts =
+      ((0 ∷ 1 ∷ 2 ∷ []) ∷ []) ∷ ((2 ∷ 1 ∷ 0 ∷ []) ∷ []) ∷ [];
+}
 
 -- the ids of a triangle, of a part and of parts are raised, and nothing else
-by_three : (raised_triangle 3 (0 ∷ 1 ∷ 2 ∷ []) ≡ 3 ∷ 4 ∷ 5 ∷ []) × (raised 3 (((0 ∷ 1 ∷ 2 ∷ []) ∷ []) ∷ ((2 ∷ 1 ∷ 0 ∷ []) ∷ []) ∷ []) ≡ ((3 ∷ 4 ∷ 5 ∷ []) ∷ []) ∷ ((5 ∷ 4 ∷ 3 ∷ []) ∷ []) ∷ [])
+by_three : (raised_triangle 3 (0 ∷ 1 ∷ 2 ∷ []) ≡ 3 ∷ 4 ∷ 5 ∷ [])
+    × (raised 3 (((0 ∷ 1 ∷ 2 ∷ []) ∷ []) ∷ ((2 ∷ 1 ∷ 0 ∷ []) ∷ []) ∷ []) ≡ ((3 ∷ 4 ∷ 5 ∷ []) ∷ [])
+    ∷ ((5 ∷ 4 ∷ 3 ∷ []) ∷ []) ∷ [])
 by_three = (refl, refl)
 
 -- an id raised to 2,097,151 is one of a valid mesh

@@ -28,25 +28,35 @@ unfolding around
 around-more ring k = ap (λ (x : ℕ). slice_index_or ring x origin) (add-mod_right k (length ring))
 
 pub around-more_next : (ring : List Point) (k : ℕ) → around ring (k + length ring + 1) ≡ around ring (k + 1)
-around-more_next ring k = let e : k + length ring + 1 ≡ k + 1 + length ring = omega arith in ap (around ring) e ∙ around-more ring (k + 1)
+around-more_next ring k = let e : k + length ring + 1 ≡ k + 1 + length ring = omega arith in ap (around ring) e
+    ∙ around-more ring (k + 1)
 
 -- the same step with equal corners
-step_cost-row : (rule : CostRule) (low high : List Point) (i j : ℕ) (s : Step) → step_cost rule low high (i + length low) j s ≡ step_cost rule low high i j s
-step_cost-row rule low high i j V = ap₂ (λ (p q : Point). v_cost rule p q (around high j)) (around-more low i) (around-more_next low i)
+step_cost-row : (rule : CostRule) (low high : List Point) (i j : ℕ) (s : Step)
+    → step_cost rule low high (i + length low) j s ≡ step_cost rule low high i j s
+step_cost-row rule low high i j V =
+    ap₂ (λ (p q : Point). v_cost rule p q (around high j)) (around-more low i) (around-more_next low i)
 step_cost-row rule low high i j H = ap (h_cost rule (around high j) (around high (j + 1))) (around-more low i)
 
-step_cost-col : (rule : CostRule) (low high : List Point) (i j : ℕ) (s : Step) → step_cost rule low high i (j + length high) s ≡ step_cost rule low high i j s
+step_cost-col : (rule : CostRule) (low high : List Point) (i j : ℕ) (s : Step)
+    → step_cost rule low high i (j + length high) s ≡ step_cost rule low high i j s
 step_cost-col rule low high i j V = ap (v_cost rule (around low i) (around low (i + 1))) (around-more high j)
-step_cost-col rule low high i j H = ap₂ (λ (p q : Point). h_cost rule p q (around low i)) (around-more high j) (around-more_next high j)
+step_cost-col rule low high i j H =
+    ap₂ (λ (p q : Point). h_cost rule p q (around low i)) (around-more high j) (around-more_next high j)
 
 pub arcs-periodic : (s : Strip) → Periodic (arcs s) (rows s) (cols s)
 unfolding arcs
 arcs-periodic s = record { row = step_cost-row s.cost s.low s.high; col = step_cost-col s.cost s.low s.high }
 
 -- the same step from a place that is counted round both rings
-step_cost-round : (rule : CostRule) (low high : List Point) (i j : ℕ) (s : Step) → step_cost rule low high (i % length low) (j % length high) s ≡ step_cost rule low high i j s
-step_cost-round rule low high i j V = ap₂ (λ (p q : Point). v_cost rule p q (around high (j % length high))) (around-mod low i) (around-mod_next low i) ∙ ap (v_cost rule (around low i) (around low (i + 1))) (around-mod high j)
-step_cost-round rule low high i j H = ap₂ (λ (p q : Point). h_cost rule p q (around low (i % length low))) (around-mod high j) (around-mod_next high j) ∙ ap (h_cost rule (around high j) (around high (j + 1))) (around-mod low i)
+step_cost-round : (rule : CostRule) (low high : List Point) (i j : ℕ) (s : Step)
+    → step_cost rule low high (i % length low) (j % length high) s ≡ step_cost rule low high i j s
+step_cost-round rule low high i j V =
+    ap₂ (λ (p q : Point). v_cost rule p q (around high (j % length high))) (around-mod low i) (around-mod_next low i)
+    ∙ ap (v_cost rule (around low i) (around low (i + 1))) (around-mod high j)
+step_cost-round rule low high i j H =
+    ap₂ (λ (p q : Point). h_cost rule p q (around low (i % length low))) (around-mod high j) (around-mod_next high j)
+    ∙ ap (h_cost rule (around high j) (around high (j + 1))) (around-mod low i)
 
 pub arcs-round : (s : Strip) (i j : ℕ) (t : Step) → arcs s (i % rows s) (j % cols s) t ≡ arcs s i j t
 unfolding arcs

@@ -11,11 +11,16 @@ use Rattle.strip_graph.proofs.WordLaws.{count_v-append, count_h-append, word_cos
 use Rattle.strip_graph.proofs.LeastWords.{distance-le, distance-reached, distance-le_v, distance-le_h, distance-v, first_none, first_v, first_h, first_h_last}
 
 -- V where it leads on at least cost, else H
-canonical_both : (a : Arcs) (i j r c : ℕ) → Canonical a (i + 1) j r (c + 1) → Canonical a i (j + 1) (r + 1) c → Canonical a i j (r + 1) (c + 1)
+canonical_both : (a : Arcs) (i j r c : ℕ) → Canonical a (i + 1) j r (c + 1) → Canonical a i (j + 1) (r + 1) c
+    → Canonical a i j (r + 1) (c + 1)
 canonical_both a i j r c f g =
     elim (cases_lt (distance a i j (r + 1) (c + 1)) (a i j V + distance a (i + 1) j r (c + 1))) [
       | inl lt ↦ record { word = H ∷ g.word; first = first_h a i j r c g.word lt g.first }
-      | inr ge ↦ record { word = V ∷ f.word; first = first_v a i j r (c + 1) f.word (omega (arith, distance-le_v a i j r (c + 1))) f.first }
+      | inr ge ↦ record {
+        word = V ∷ f.word;
+        first =
+            first_v a i j r (c + 1) f.word (omega (arith, distance-le_v a i j r (c + 1))) f.first;
+      }
     ]
 
 -- it exists for each number k of letters
@@ -42,10 +47,12 @@ pub canonical : (a : Arcs) (i j r c : ℕ) → Canonical a i j r c
 canonical a i j r c = canonical_of a (r + c) i j r c refl
 
 -- a canonical word without its first letter is canonical, and its first letter leads on at least cost
-pub tail_v : (a : Arcs) (i j r c : ℕ) (w : List Step) → IsFirst a i j (r + 1) c (V ∷ w) → (distance a i j (r + 1) c ≡ a i j V + distance a (i + 1) j r c) × IsFirst a (i + 1) j r c w
+pub tail_v : (a : Arcs) (i j r c : ℕ) (w : List Step) → IsFirst a i j (r + 1) c (V ∷ w)
+    → (distance a i j (r + 1) c ≡ a i j V + distance a (i + 1) j r c) × IsFirst a (i + 1) j r c w
 tail_v a i j r c w f =
     let l : HasLetters r c w = record { v = omega (arith, f.letters.v); h = f.letters.h } in
-    let e : word_cost a (i + 1) j w ≡ distance a (i + 1) j r c = omega (arith, f.least, distance-le_v a i j r c, distance-le a (i + 1) j r c w l) in (
+    let e : word_cost a (i + 1) j w ≡ distance a (i + 1) j r c =
+    omega (arith, f.least, distance-le_v a i j r c, distance-le a (i + 1) j r c w l) in (
       omega (arith, f.least),
       record {
         letters = l;
@@ -54,10 +61,12 @@ tail_v a i j r c w f =
       },
     )
 
-pub tail_h : (a : Arcs) (i j r c : ℕ) (w : List Step) → IsFirst a i j r (c + 1) (H ∷ w) → (distance a i j r (c + 1) ≡ a i j H + distance a i (j + 1) r c) × IsFirst a i (j + 1) r c w
+pub tail_h : (a : Arcs) (i j r c : ℕ) (w : List Step) → IsFirst a i j r (c + 1) (H ∷ w)
+    → (distance a i j r (c + 1) ≡ a i j H + distance a i (j + 1) r c) × IsFirst a i (j + 1) r c w
 tail_h a i j r c w f =
     let l : HasLetters r c w = record { v = f.letters.v; h = omega (arith, f.letters.h) } in
-    let e : word_cost a i (j + 1) w ≡ distance a i (j + 1) r c = omega (arith, f.least, distance-le_h a i j r c, distance-le a i (j + 1) r c w l) in (
+    let e : word_cost a i (j + 1) w ≡ distance a i (j + 1) r c =
+    omega (arith, f.least, distance-le_h a i j r c, distance-le a i (j + 1) r c w l) in (
       omega (arith, f.least),
       record {
         letters = l;
@@ -67,12 +76,14 @@ tail_h a i j r c w f =
     )
 
 -- where a canonical word begins with H, V costs more
-pub h_is_cheaper : (a : Arcs) (i j r c : ℕ) (w : List Step) → IsFirst a i j (r + 1) c (H ∷ w) → distance a i j (r + 1) c < a i j V + distance a (i + 1) j r c
+pub h_is_cheaper : (a : Arcs) (i j r c : ℕ) (w : List Step) → IsFirst a i j (r + 1) c (H ∷ w)
+    → distance a i j (r + 1) c < a i j V + distance a (i + 1) j r c
 h_is_cheaper a i j r c w f =
     elim (cases_lt (distance a i j (r + 1) c) (a i j V + distance a (i + 1) j r c)) [
       | inl lt ↦ lt
       | inr ge ↦ (let k = distance-reached a (i + 1) j r c in
-          absurd (f.first (V ∷ k.word) (record { v = omega (arith, k.letters.v); h = k.letters.h }) (omega (arith, k.cost, distance-le_v a i j r c))))
+          absurd (f.first (V ∷ k.word) (record { v = omega (arith, k.letters.v); h = k.letters.h })
+          (omega (arith, k.cost, distance-le_v a i j r c))))
     ]
 
 -- two words are equal if neither comes after the other
@@ -106,26 +117,49 @@ not_after-fronts (H ∷ u) (V ∷ v) w e p = p
 not_after-fronts (H ∷ u) (H ∷ v) w e p = not_after-fronts u v w (omega (arith, e)) p
 
 -- the parts are canonical
-pub parts_canonical : (a : Arcs) (i j r c r' c' : ℕ) (u w : List Step) → HasLetters r c u → HasLetters r' c' w → IsFirst a i j (r + r') (c + c') (u ++ w) → IsFirstInParts a i j r c r' c' u w
+pub parts_canonical : (a : Arcs) (i j r c r' c' : ℕ) (u w : List Step) → HasLetters r c u → HasLetters r' c' w
+    → IsFirst a i j (r + r') (c + c') (u ++ w) → IsFirstInParts a i j r c r' c' u w
 parts_canonical a i j r c r' c' u w k l f = record { front = front; back = back }
   where
     -- any two words with these letters
     letters : (v x : List Step) → HasLetters r c v → HasLetters r' c' x → HasLetters (r + r') (c + c') (v ++ x)
-    letters v x p q = record { v = omega (arith, count_v-append v x, p.v, q.v); h = omega (arith, count_h-append v x, p.h, q.h) }
+    letters v x p q = record {
+      v = omega (arith, count_v-append v x, p.v, q.v);
+      h =
+          omega (arith, count_h-append v x, p.h, q.h);
+    }
 
-    cost : (v x : List Step) → HasLetters r c v → word_cost a i j (v ++ x) ≡ word_cost a i j v + word_cost a (i + r) (j + c) x
-    cost v x p = word_cost-append a i j v x ∙ ap₂ (λ (y z : ℕ). word_cost a i j v + word_cost a (i + y) (j + z) x) p.v p.h
+    cost : (v x : List Step) → HasLetters r c v
+        → word_cost a i j (v ++ x) ≡ word_cost a i j v + word_cost a (i + r) (j + c) x
+    cost v x p = word_cost-append a i j v x
+        ∙ ap₂ (λ (y z : ℕ). word_cost a i j v + word_cost a (i + y) (j + z) x) p.v p.h
 
     -- neither part can be replaced by a word that costs less
     least_front : word_cost a i j u ≡ distance a i j r c
     least_front =
         let d = distance-reached a i j r c in
-        omega (arith, d.cost, cost u w k, cost d.word w d.letters, f.least, distance-le a i j r c u k, distance-le a i j (r + r') (c + c') (d.word ++ w) (letters d.word w d.letters l))
+        omega (
+          arith,
+          d.cost,
+          cost u w k,
+          cost d.word w d.letters,
+          f.least,
+          distance-le a i j r c u k,
+          distance-le a i j (r + r') (c + c') (d.word ++ w) (letters d.word w d.letters l),
+        )
 
     least_back : word_cost a (i + r) (j + c) w ≡ distance a (i + r) (j + c) r' c'
     least_back =
         let d = distance-reached a (i + r) (j + c) r' c' in
-        omega (arith, d.cost, cost u w k, cost u d.word k, f.least, distance-le a (i + r) (j + c) r' c' w l, distance-le a i j (r + r') (c + c') (u ++ d.word) (letters u d.word k d.letters))
+        omega (
+          arith,
+          d.cost,
+          cost u w k,
+          cost u d.word k,
+          f.least,
+          distance-le a (i + r) (j + c) r' c' w l,
+          distance-le a i j (r + r') (c + c') (u ++ d.word) (letters u d.word k d.letters),
+        )
 
     front : IsFirst a i j r c u
     front = record {
@@ -139,5 +173,6 @@ parts_canonical a i j r c r' c' u w k l f = record { front = front; back = back 
     back = record {
       letters = l;
       least = least_back;
-      first = λ v p e. not_after-tails u w v (f.first (u ++ v) (letters u v k p) (omega (arith, cost u w k, cost u v k, e, least_back, f.least)));
+      first = λ v p e. not_after-tails u w v
+          (f.first (u ++ v) (letters u v k p) (omega (arith, cost u w k, cost u v k, e, least_back, f.least)));
     }

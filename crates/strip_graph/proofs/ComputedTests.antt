@@ -8,7 +8,16 @@ use Rattle.strip_graph.specs.Certificates.{IsModest}
 
 -- a list, with the place of another one
 abbrev pub list_at : {X Y : Type 0} → Vec Y Global → (xs : List X) → T (ltb (length xs) (2 ^ 63)) → Vec X Global
-list_at v xs few = record { ptr = v.ptr; len = length xs; cap = length xs; alloc = v.alloc; items = xs; ok = (refl, omega arith); small = lit< few }
+list_at v xs few = record {
+  ptr = v.ptr;
+  len = length xs;
+  cap = length xs;
+  alloc = v.alloc;
+  items = xs;
+  ok =
+      (refl, omega arith);
+  small = lit< few;
+}
 
 both : (a b : Bool) → T (a && b) → T a × T b
 both true b t = (tt, t)
@@ -21,7 +30,8 @@ are_modest (x ∷ xs) = leb (unsigned_abs x) (10 ^ 36) && are_modest xs
 
 pub modest : (xs : List ℤ) → T (are_modest xs) → All IsModest xs
 modest [] t = All-nil IsModest
-modest (x ∷ xs) t = let k = both (leb (unsigned_abs x) (10 ^ 36)) (are_modest xs) t in All-cons IsModest x xs (lit≤ k.0) (modest xs k.1)
+modest (x ∷ xs) t = let k = both (leb (unsigned_abs x) (10 ^ 36)) (are_modest xs) t in
+    All-cons IsModest x xs (lit≤ k.0) (modest xs k.1)
 
 -- whether a test passes for each number below a bound
 abbrev pub passes : ℕ → (ℕ → Bool) → Bool

@@ -24,25 +24,50 @@ here : (i j x c : ℕ) (w : List Step) → i ≡ x → j ≡ c → Passes i j x 
 here i j x c w e f = record { front = []; back = w; joins = refl; v = omega arith; h = omega arith }
 
 down : (i j x c : ℕ) (w : List Step) → Passes (i + 1) j x c w → Passes i j x c (V ∷ w)
-down i j x c w p = record { front = V ∷ p.front; back = p.back; joins = ap (λ (u : List Step). V ∷ u) p.joins; v = omega (arith, p.v); h = omega (arith, p.h) }
+down i j x c w p = record {
+  front = V ∷ p.front;
+  back = p.back;
+  joins = ap (λ (u : List Step). V ∷ u) p.joins;
+  v =
+      omega (arith, p.v);
+  h = omega (arith, p.h);
+}
 
 right : (i j x c : ℕ) (w : List Step) → Passes i (j + 1) x c w → Passes i j x c (H ∷ w)
-right i j x c w p = record { front = H ∷ p.front; back = p.back; joins = ap (λ (u : List Step). H ∷ u) p.joins; v = omega (arith, p.v); h = omega (arith, p.h) }
+right i j x c w p = record {
+  front = H ∷ p.front;
+  back = p.back;
+  joins = ap (λ (u : List Step). H ∷ u) p.joins;
+  v =
+      omega (arith, p.v);
+  h = omega (arith, p.h);
+}
 
 -- a word passes the places from where it enters a row to where it enters the next one
-pub passes : (w : List Step) (i j x c : ℕ) → i ≤ x → x ≤ i + count_v w → entry i j w x ≤ c → c ≤ entry i j w (x + 1) → Passes i j x c w
+pub passes : (w : List Step) (i j x c : ℕ) → i ≤ x → x ≤ i + count_v w → entry i j w x ≤ c → c ≤ entry i j w (x + 1)
+    → Passes i j x c w
 passes [] i j x c le end from to = here i j x c [] (omega arith) (omega arith)
 passes (V ∷ w) i j x c le end from to =
     elim (cases_lt i x) [
-      | inl lt ↦ down i j x c w (passes w (i + 1) j x c (omega arith) (omega arith) (omega (arith, from, entry-v i j w x lt)) (omega (arith, to, entry-v i j w (x + 1) (omega arith))))
+      | inl lt ↦ down i j x c w (passes w (i + 1) j x c (omega arith) (omega arith)
+          (omega (arith, from, entry-v i j w x lt)) (omega (arith, to, entry-v i j w (x + 1) (omega arith))))
       | inr ge ↦ here i j x c (V ∷ w) (omega arith)
-          (omega (arith, from, to, entry-start i j (V ∷ w) x ge, entry-v i j w (x + 1) (omega arith), entry-start (i + 1) j w (x + 1) (omega arith)))
+          (omega (
+            arith,
+            from,
+            to,
+            entry-start i j (V ∷ w) x ge,
+            entry-v i j w (x + 1) (omega arith),
+            entry-start (i + 1) j w (x + 1) (omega arith),
+          ))
     ]
 passes (H ∷ w) i j x c le end from to =
     elim (cases_lt i x) [
-      | inl lt ↦ right i j x c w (passes w i (j + 1) x c le end (omega (arith, from, entry-h i j w x lt)) (omega (arith, to, entry-h i j w (x + 1) (omega arith))))
+      | inl lt ↦ right i j x c w (passes w i (j + 1) x c le end (omega (arith, from, entry-h i j w x lt))
+          (omega (arith, to, entry-h i j w (x + 1) (omega arith))))
       | inr ge ↦ elim (cases_lt j c) [
-        | inl lt ↦ right i j x c w (passes w i (j + 1) x c le end (omega (arith, lt, entry-start i (j + 1) w x ge)) (omega (arith, to, entry-h i j w (x + 1) (omega arith))))
+        | inl lt ↦ right i j x c w (passes w i (j + 1) x c le end (omega (arith, lt, entry-start i (j + 1) w x ge))
+            (omega (arith, to, entry-h i j w (x + 1) (omega arith))))
         | inr ge' ↦ here i j x c (H ∷ w) (omega arith) (omega (arith, from, entry-start i j (H ∷ w) x ge, ge'))
       ]
     ]
@@ -58,7 +83,8 @@ pub record IsThrough (a : Arcs) (lo hi : ℕ → ℕ) (s e n x c : ℕ) : Type 0
   pub cost : distance a s 0 (e - s) n ≡ distance a s 0 (x - s) c + distance a x c (e - x) (n - c)
   pub col : c ≤ n
 
-pub through : (a : Arcs) (lo hi : ℕ → ℕ) (s e n x c : ℕ) (w : List Step) → s ≤ x → x ≤ e → IsFirst a s 0 (e - s) n w → IsWithin lo hi s 0 w → Passes s 0 x c w → IsThrough a lo hi s e n x c
+pub through : (a : Arcs) (lo hi : ℕ → ℕ) (s e n x c : ℕ) (w : List Step) → s ≤ x → x ≤ e → IsFirst a s 0 (e - s) n w
+    → IsWithin lo hi s 0 w → Passes s 0 x c w → IsThrough a lo hi s e n x c
 through a lo hi s e n x c w le le' f k p = record {
   front = p.front;
   back = p.back;
@@ -66,7 +92,15 @@ through a lo hi s e n x c w le le' f k p = record {
   first_back = back;
   within_front = within_front lo hi s 0 p.front p.back inside;
   within_back = subst₂ (λ (y z : ℕ). IsWithin lo hi y z p.back) p.v p.h (within_back lo hi s 0 p.front p.back inside);
-  cost = omega (arith, f.least, ap (word_cost a s 0) p.joins, word_cost-append a s 0 p.front p.back, ap₂ (λ (y z : ℕ). word_cost a y z p.back) p.v p.h, parts.front.least, back.least);
+  cost = omega (
+    arith,
+    f.least,
+    ap (word_cost a s 0) p.joins,
+    word_cost-append a s 0 p.front p.back,
+    ap₂ (λ (y z : ℕ). word_cost a y z p.back) p.v p.h,
+    parts.front.least,
+    back.least,
+  );
   col = omega (arith, few);
 }
   where
@@ -83,12 +117,17 @@ through a lo hi s e n x c w le le' f k p = record {
     letters_front = record { v = omega (arith, p.v); h = omega (arith, p.h) }
 
     letters_back : HasLetters (e - x) (n - c) p.back
-    letters_back = record { v = omega (arith, f.letters.v, ap count_v p.joins, count_v-append p.front p.back, p.v); h = omega (arith, few) }
+    letters_back = record {
+      v = omega (arith, f.letters.v, ap count_v p.joins, count_v-append p.front p.back, p.v);
+      h =
+          omega (arith, few);
+    }
 
     parts : IsFirstInParts a s 0 (x - s) c (e - x) (n - c) p.front p.back
     parts =
         parts_canonical a s 0 (x - s) c (e - x) (n - c) p.front p.back letters_front letters_back
-        (subst₂ (λ (k l : ℕ). IsFirst a s 0 k l (p.front ++ p.back)) (sym rows) (omega (arith, few)) (subst (IsFirst a s 0 (e - s) n) p.joins f))
+        (subst₂ (λ (k l : ℕ). IsFirst a s 0 k l (p.front ++ p.back)) (sym rows) (omega (arith, few))
+        (subst (IsFirst a s 0 (e - s) n) p.joins f))
 
     back : IsFirst a x c (e - x) (n - c) p.back
     back =

@@ -52,7 +52,8 @@ pub step_at : (a : Arcs) (i j i' j' : ℕ) → i ≡ i' → j ≡ j' → (a i j 
 step_at a i j i' j' e f = (ap₂ (λ (x y : ℕ). a x y V) e f, ap₂ (λ (x y : ℕ). a x y H) e f)
 
 -- no step raises the potential by more than its cost
-pub potential-step_v : (a : Arcs) (m n i j : ℕ) → 0 < m → (potential a m n (i + 1) j -ℤ potential a m n i j) ≤ℤ pos (a i j V)
+pub potential-step_v : (a : Arcs) (m n i j : ℕ) → 0 < m
+    → (potential a m n (i + 1) j -ℤ potential a m n i j) ≤ℤ pos (a i j V)
 potential-step_v a m n i j some =
     let k = potential-reached a m n i j some in
     omega (
@@ -68,7 +69,8 @@ potential-step_v a m n i j some =
     rows_more : (i k : ℕ) → k ≤ i → i + 1 - k ≡ i - k + 1
     rows_more i k le = omega arith
 
-pub potential-step_h : (a : Arcs) (m n i j : ℕ) → 0 < m → (potential a m n i (j + 1) -ℤ potential a m n i j) ≤ℤ pos (a i j H)
+pub potential-step_h : (a : Arcs) (m n i j : ℕ) → 0 < m
+    → (potential a m n i (j + 1) -ℤ potential a m n i j) ≤ℤ pos (a i j H)
 potential-step_h a m n i j some =
     let k = potential-reached a m n i j some in
     omega (
@@ -81,8 +83,17 @@ potential-step_h a m n i j some =
     )
 
 -- once round it rises by k or more, where no turn costs less than k
-pub potential-turn : (a : Arcs) (m n k : ℕ) → ((l : ℕ) → l < m → k ≤ turn_cost a m n l l) → (i : ℕ) → i < m → pos k ≤ℤ (potential a m n (i + m) n -ℤ potential a m n i 0)
+pub potential-turn : (a : Arcs) (m n k : ℕ) → ((l : ℕ) → l < m → k ≤ turn_cost a m n l l) → (i : ℕ) → i < m
+    → pos k ≤ℤ (potential a m n (i + m) n -ℤ potential a m n i 0)
 potential-turn a m n k below i lt =
     let f = potential-reached a m n (i + m) n (omega arith) in
     let e : i - i ≡ 0 = omega arith in
-    omega (arith, ints, f.value, potential-le a m n i 0 i lt (omega arith), ap (λ (x : ℕ). distance a i 0 x 0) e, distance-none a i 0, offsets_telescope a m n k below f.row i f.below lt)
+    omega (
+      arith,
+      ints,
+      f.value,
+      potential-le a m n i 0 i lt (omega arith),
+      ap (λ (x : ℕ). distance a i 0 x 0) e,
+      distance-none a i 0,
+      offsets_telescope a m n k below f.row i f.below lt,
+    )

@@ -66,16 +66,28 @@ came a m n r c some = at (cases_lt 0 (r - k.row + c))
     }
 
     at : (0 < r - k.row + c) ⊎ (r - k.row + c ≤ 0) → FromOffset a m n r c ⊎ (FromAbove a m n r c ⊎ FromLeft a m n r c)
-    at (inl lt) = elim (last_step a k.row 0 (r - k.row) c lt) [ inl v ↦ inr (inl (above v)) | inr h ↦ inr (inr (left h)) ]
+    at (inl lt) = elim (last_step a k.row 0 (r - k.row) c lt)
+        [ inl v ↦ inr (inl (above v)) | inr h ↦ inr (inr (left h)) ]
     at (inr le) =
         let e : k.row ≡ r = omega (arith, k.above) in
-        inl (record { row = omega (arith, k.below); col = omega arith; value = omega (arith, ints, k.value, ap (offset a m n) e) })
+        inl (record {
+          row = omega (arith, k.below);
+          col = omega arith;
+          value =
+              omega (arith, ints, k.value, ap (offset a m n) e);
+        })
 
 -- no potential is above its own offset
 by_offset : (a : Arcs) (m n i : ℕ) → i < m → potential a m n i 0 ≤ℤ offset a m n i
 by_offset a m n i lt =
     let e : i - i ≡ 0 = omega arith in
-    omega (arith, ints, potential-le a m n i 0 i lt (omega arith), ap (λ (x : ℕ). distance a i 0 x 0) e, distance-none a i 0)
+    omega (
+      arith,
+      ints,
+      potential-le a m n i 0 i lt (omega arith),
+      ap (λ (x : ℕ). distance a i 0 x 0) e,
+      distance-none a i 0,
+    )
 
 -- the same facts where a row or a column is written in another way
 same_row : (a : Arcs) (m n c q r : ℕ) → q ≡ r → (potential a m n q c ≡ potential a m n r c) × (a q c V ≡ a r c V)
@@ -98,36 +110,83 @@ potential-along a m n c some =
       | inl f ↦ absurd (omega (arith, f.col))
       | inr g ↦ elim g [
         | inl v ↦ absurd (omega (arith, v.rows))
-        | inr h ↦ omega (arith, ints, h.value, potential-step_h a m n 0 c some, same_col a m n 0 h.before c (omega (arith, h.cols)))
+        | inr h ↦ omega (
+          arith,
+          ints,
+          h.value,
+          potential-step_h a m n 0 c some,
+          same_col a m n 0 h.before c (omega (arith, h.cols)),
+        )
       ]
     ]
 
-pub potential-down_start : (a : Arcs) (m n r : ℕ) → r + 1 < m → potential a m n (r + 1) 0 ≡ int_min (potential a m n r 0 +ℤ pos (a r 0 V)) (offset a m n (r + 1))
+pub potential-down_start : (a : Arcs) (m n r : ℕ) → r + 1 < m
+    → potential a m n (r + 1) 0 ≡ int_min (potential a m n r 0 +ℤ pos (a r 0 V)) (offset a m n (r + 1))
 potential-down_start a m n r lt =
     elim (came a m n (r + 1) 0 (omega arith)) [
-      | inl f ↦ omega (arith, ints, clamps, f.value, by_offset a m n (r + 1) lt, potential-step_v a m n r 0 (omega arith))
+      | inl f ↦ omega (
+        arith,
+        ints,
+        clamps,
+        f.value,
+        by_offset a m n (r + 1) lt,
+        potential-step_v a m n r 0 (omega arith),
+      )
       | inr g ↦ elim g [
-        | inl v ↦ omega (arith, ints, clamps, v.value, by_offset a m n (r + 1) lt, potential-step_v a m n r 0 (omega arith), same_row a m n 0 v.before r (omega (arith, v.rows)))
+        | inl v ↦ omega (
+          arith,
+          ints,
+          clamps,
+          v.value,
+          by_offset a m n (r + 1) lt,
+          potential-step_v a m n r 0 (omega arith),
+          same_row a m n 0 v.before r (omega (arith, v.rows)),
+        )
         | inr h ↦ absurd (omega (arith, h.cols))
       ]
     ]
 
-pub potential-down : (a : Arcs) (m n r : ℕ) → 0 < m → m ≤ r + 1 → potential a m n (r + 1) 0 ≡ potential a m n r 0 +ℤ pos (a r 0 V)
+pub potential-down : (a : Arcs) (m n r : ℕ) → 0 < m → m ≤ r + 1
+    → potential a m n (r + 1) 0 ≡ potential a m n r 0 +ℤ pos (a r 0 V)
 potential-down a m n r some le =
     elim (came a m n (r + 1) 0 some) [
       | inl f ↦ absurd (omega (arith, f.row))
       | inr g ↦ elim g [
-        | inl v ↦ omega (arith, ints, v.value, potential-step_v a m n r 0 some, same_row a m n 0 v.before r (omega (arith, v.rows)))
+        | inl v ↦ omega (
+          arith,
+          ints,
+          v.value,
+          potential-step_v a m n r 0 some,
+          same_row a m n 0 v.before r (omega (arith, v.rows)),
+        )
         | inr h ↦ absurd (omega (arith, h.cols))
       ]
     ]
 
-pub potential-both : (a : Arcs) (m n r c : ℕ) → 0 < m → potential a m n (r + 1) (c + 1) ≡ int_min (potential a m n r (c + 1) +ℤ pos (a r (c + 1) V)) (potential a m n (r + 1) c +ℤ pos (a (r + 1) c H))
+pub potential-both : (a : Arcs) (m n r c : ℕ) → 0 < m
+    → potential a m n (r + 1) (c + 1) ≡ int_min (potential a m n r (c + 1) +ℤ pos (a r (c + 1) V))
+    (potential a m n (r + 1) c +ℤ pos (a (r + 1) c H))
 potential-both a m n r c some =
     elim (came a m n (r + 1) (c + 1) some) [
       | inl f ↦ absurd (omega (arith, f.col))
       | inr g ↦ elim g [
-        | inl v ↦ omega (arith, ints, clamps, v.value, potential-step_v a m n r (c + 1) some, potential-step_h a m n (r + 1) c some, same_row a m n (c + 1) v.before r (omega (arith, v.rows)))
-        | inr h ↦ omega (arith, ints, clamps, h.value, potential-step_v a m n r (c + 1) some, potential-step_h a m n (r + 1) c some, same_col a m n (r + 1) h.before c (omega (arith, h.cols)))
+        | inl v ↦ omega (
+          arith,
+          ints,
+          clamps,
+          v.value,
+          potential-step_v a m n r (c + 1) some,
+          potential-step_h a m n (r + 1) c some,
+          same_row a m n (c + 1) v.before r (omega (arith, v.rows)),
+        )
+        | inr h ↦ omega (
+          arith,
+          ints,
+          clamps,
+          h.value,
+          potential-step_v a m n r (c + 1) some,
+          potential-step_h a m n (r + 1) c some,
+          same_col a m n (r + 1) h.before c (omega (arith, h.cols)),
+        )
       ]
     ]

@@ -35,12 +35,14 @@ pub entry-bounds : (i j : ℕ) (w : List Step) (x : ℕ) → (j ≤ entry i j w 
 entry-bounds i j [] x = (omega arith, omega arith)
 entry-bounds i j (V ∷ w) x =
     elim (cases_lt i x) [
-      | inl lt ↦ (let r = entry-bounds (i + 1) j w x in (omega (arith, r.0, entry-v i j w x lt), omega (arith, r.1, entry-v i j w x lt)))
+      | inl lt ↦ (let r = entry-bounds (i + 1) j w x in
+          (omega (arith, r.0, entry-v i j w x lt), omega (arith, r.1, entry-v i j w x lt)))
       | inr ge ↦ (omega (arith, entry-start i j (V ∷ w) x ge), omega (arith, entry-start i j (V ∷ w) x ge))
     ]
 entry-bounds i j (H ∷ w) x =
     elim (cases_lt i x) [
-      | inl lt ↦ (let r = entry-bounds i (j + 1) w x in (omega (arith, r.0, entry-h i j w x lt), omega (arith, r.1, entry-h i j w x lt)))
+      | inl lt ↦ (let r = entry-bounds i (j + 1) w x in
+          (omega (arith, r.0, entry-h i j w x lt), omega (arith, r.1, entry-h i j w x lt)))
       | inr ge ↦ (omega (arith, entry-start i j (H ∷ w) x ge), omega (arith, entry-start i j (H ∷ w) x ge))
     ]
 
@@ -67,12 +69,14 @@ beside-h i i' j u w le b x =
     ]
 
 -- from one place the first word does not go on by V where the second goes on by H
-v_with_h : (a : Arcs) (i j r r' c : ℕ) (u w : List Step) → r ≤ r' → IsFirst a i j r c (V ∷ u) → IsFirst a i j r' c (H ∷ w) → ⊥
+v_with_h : (a : Arcs) (i j r r' c : ℕ) (u w : List Step) → r ≤ r' → IsFirst a i j r c (V ∷ u)
+    → IsFirst a i j r' c (H ∷ w) → ⊥
 v_with_h a i j zero r' c u w le f g = omega (arith, f.letters.v)
 v_with_h a i j (suc t) r' zero u w le f g = omega (arith, g.letters.h)
 v_with_h a i j (suc t) zero (suc c) u w le f g = omega arith
 v_with_h a i j (suc t) (suc s) (suc c) u w le f g =
-    clash t s c (omega arith) (subst₂ (λ (x y : ℕ). IsFirst a i j x y (V ∷ u)) (omega arith) (omega arith) f) (subst₂ (λ (x y : ℕ). IsFirst a i j x y (H ∷ w)) (omega arith) (omega arith) g)
+    clash t s c (omega arith) (subst₂ (λ (x y : ℕ). IsFirst a i j x y (V ∷ u)) (omega arith) (omega arith) f)
+    (subst₂ (λ (x y : ℕ). IsFirst a i j x y (H ∷ w)) (omega arith) (omega arith) g)
   where
     clash : (t s c : ℕ) → t ≤ s → IsFirst a i j (t + 1) (c + 1) (V ∷ u) → IsFirst a i j (s + 1) (c + 1) (H ∷ w) → ⊥
     clash t s c le f g =
@@ -87,7 +91,8 @@ v_with_h a i j (suc t) (suc s) (suc c) u w le f g =
 
 -- the claim about two canonical words: the second starts and ends below the first
 abbrev LieBeside : Arcs → List Step → List Step → Type 0
-LieBeside a u w = (i i' j r r' c : ℕ) → IsFirst a i j r c u → IsFirst a i' j r' c w → i ≤ i' → i + r ≤ i' + r' → IsBeside i i' j u w
+LieBeside a u w = (i i' j r r' c : ℕ) → IsFirst a i j r c u → IsFirst a i' j r' c w → i ≤ i' → i + r ≤ i' + r'
+    → IsBeside i i' j u w
 
 beside_h : (a : Arcs) (u : List Step) → ((w : List Step) → LieBeside a u w) → (w : List Step) → LieBeside a (H ∷ u) w
 beside_h a u rest [] i i' j r r' c f g le ends = absurd (omega (arith, f.letters.h, g.letters.h))
@@ -102,7 +107,8 @@ beside_h a u rest (H ∷ w) i i' j r r' (suc c) f g le ends =
     beside-h i i' j u w le (rest w i i' (j + 1) r r' c f' g' le ends)
 
 -- both start at one place, and the first goes on by V
-beside_from_one : (a : Arcs) (u : List Step) → ((w : List Step) → LieBeside a u w) → (w : List Step) (i i' j r r' c : ℕ) → i ≡ i' → IsFirst a i j (suc r) c (V ∷ u) → IsFirst a i' j r' c w → i + suc r ≤ i' + r' → IsBeside i i' j (V ∷ u) w
+beside_from_one : (a : Arcs) (u : List Step) → ((w : List Step) → LieBeside a u w) → (w : List Step) (i i' j r r' c : ℕ)
+    → i ≡ i' → IsFirst a i j (suc r) c (V ∷ u) → IsFirst a i' j r' c w → i + suc r ≤ i' + r' → IsBeside i i' j (V ∷ u) w
 beside_from_one a u rest [] i i' j r r' c e f g ends = absurd (omega (arith, g.letters.v))
 beside_from_one a u rest (H ∷ w) i i' j r r' c e f g ends =
     absurd (v_with_h a i j (suc r) r' c u w (omega arith) f (subst (λ (x : ℕ). IsFirst a x j r' c (H ∷ w)) (sym e) g))
@@ -110,7 +116,8 @@ beside_from_one a u rest (V ∷ w) i i' j r zero c e f g ends = absurd (omega (a
 beside_from_one a u rest (V ∷ w) i i' j r (suc r') c e f g ends =
     let f' = (tail_v a i j r c u (subst (λ (x : ℕ). IsFirst a i j x c (V ∷ u)) (omega arith) f)).1 in
     let g' = (tail_v a i' j r' c w (subst (λ (x : ℕ). IsFirst a i' j x c (V ∷ w)) (omega arith) g)).1 in
-    beside-v i i' j u (V ∷ w) (omega arith) (beside-v' (i + 1) i' j u w (rest w (i + 1) (i' + 1) j r r' c f' g' (omega arith) (omega arith)))
+    beside-v i i' j u (V ∷ w) (omega arith)
+    (beside-v' (i + 1) i' j u w (rest w (i + 1) (i' + 1) j r r' c f' g' (omega arith) (omega arith)))
 
 -- canonical words of which the second starts and ends below the first: it enters each row no later
 pub lie_beside : (a : Arcs) (u w : List Step) → LieBeside a u w
@@ -125,14 +132,16 @@ lie_beside a (V ∷ u) w i i' j (suc r) r' c f g le ends =
     ]
 
 -- the place where a word starts, if the word enters each row between two bounds
-inside : (lo hi : ℕ → ℕ) (i j : ℕ) (w : List Step) → ((x : ℕ) → i ≤ x → lo x ≤ entry i j w x) → ((x : ℕ) → i ≤ x → entry i j w (x + 1) ≤ hi x) → IsInside lo hi i j
+inside : (lo hi : ℕ → ℕ) (i j : ℕ) (w : List Step) → ((x : ℕ) → i ≤ x → lo x ≤ entry i j w x)
+    → ((x : ℕ) → i ≤ x → entry i j w (x + 1) ≤ hi x) → IsInside lo hi i j
 inside lo hi i j w from to = record {
   from = omega (arith, from i (omega arith), entry-start i j w i (omega arith));
   to = omega (arith, to i (omega arith), (entry-bounds i j w (i + 1)).0);
 }
 
 -- such a word stays in the region between them
-pub stays_within : (lo hi : ℕ → ℕ) (i j : ℕ) (w : List Step) → ((x : ℕ) → i ≤ x → lo x ≤ entry i j w x) → ((x : ℕ) → i ≤ x → entry i j w (x + 1) ≤ hi x) → IsWithin lo hi i j w
+pub stays_within : (lo hi : ℕ → ℕ) (i j : ℕ) (w : List Step) → ((x : ℕ) → i ≤ x → lo x ≤ entry i j w x)
+    → ((x : ℕ) → i ≤ x → entry i j w (x + 1) ≤ hi x) → IsWithin lo hi i j w
 stays_within lo hi i j [] from to = inside lo hi i j [] from to
 stays_within lo hi i j (V ∷ w) from to = (
   inside lo hi i j (V ∷ w) from to,
@@ -184,15 +193,26 @@ entry-front i j (H ∷ u) w x le =
       | inr ge ↦ omega (arith, entry-start i j (H ∷ (u ++ w)) x ge, entry-start i j (H ∷ u) x ge)
     ]
 
-pub entry-back : (i j : ℕ) (u w : List Step) (x : ℕ) → i + count_v u < x → entry i j (u ++ w) x ≡ entry (i + count_v u) (j + count_h u) w x
+pub entry-back : (i j : ℕ) (u w : List Step) (x : ℕ) → i + count_v u < x
+    → entry i j (u ++ w) x ≡ entry (i + count_v u) (j + count_h u) w x
 entry-back i j [] w x lt = ap₂ (λ (y z : ℕ). entry y z w x) (omega arith) (omega arith)
 entry-back i j (V ∷ u) w x lt =
-    omega (arith, entry-v i j (u ++ w) x (omega arith), entry-back (i + 1) j u w x (omega arith), ap (λ (y : ℕ). entry y (j + count_h u) w x) (next i (count_v u)))
+    omega (
+      arith,
+      entry-v i j (u ++ w) x (omega arith),
+      entry-back (i + 1) j u w x (omega arith),
+      ap (λ (y : ℕ). entry y (j + count_h u) w x) (next i (count_v u)),
+    )
   where
     next : (i k : ℕ) → i + 1 + k ≡ i + (1 + k)
     next i k = omega arith
 entry-back i j (H ∷ u) w x lt =
-    omega (arith, entry-h i j (u ++ w) x (omega arith), entry-back i (j + 1) u w x lt, ap (λ (y : ℕ). entry (i + count_v u) y w x) (next j (count_h u)))
+    omega (
+      arith,
+      entry-h i j (u ++ w) x (omega arith),
+      entry-back i (j + 1) u w x lt,
+      ap (λ (y : ℕ). entry (i + count_v u) y w x) (next j (count_h u)),
+    )
   where
     next : (j k : ℕ) → j + 1 + k ≡ j + (1 + k)
     next j k = omega arith
@@ -201,4 +221,9 @@ entry-back i j (H ∷ u) w x lt =
 pub entry-next : (i j : ℕ) (u w : List Step) → entry i j (u ++ V ∷ w) (i + count_v u + 1) ≡ j + count_h u
 entry-next i j u w =
     let x : ℕ = i + count_v u in
-    omega (arith, entry-back i j u (V ∷ w) (x + 1) (omega arith), entry-v x (j + count_h u) w (x + 1) (omega arith), entry-start (x + 1) (j + count_h u) w (x + 1) (omega arith))
+    omega (
+      arith,
+      entry-back i j u (V ∷ w) (x + 1) (omega arith),
+      entry-v x (j + count_h u) w (x + 1) (omega arith),
+      entry-start (x + 1) (j + count_h u) w (x + 1) (omega arith),
+    )

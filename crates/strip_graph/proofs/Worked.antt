@@ -38,13 +38,19 @@ unfolding arcs around distance_square square
 squares_word = refl
 
 -- twice the spans and once the areas: 2 * 1200, and 10,000 for each of eight tiles
-mixed_word : (word_cost (arcs (record squares { cost = Mix 2 1 })) 0 0 (V ∷ H ∷ V ∷ H ∷ V ∷ H ∷ V ∷ H ∷ []) ≡ 82400) × (word_cost (arcs (record squares { cost = Mix 0 3 })) 0 0 (V ∷ H ∷ V ∷ H ∷ V ∷ H ∷ V ∷ H ∷ []) ≡ 240000)
+mixed_word : (word_cost (arcs (record squares { cost = Mix 2 1 })) 0 0 (V ∷ H ∷ V ∷ H ∷ V ∷ H ∷ V ∷ H ∷ []) ≡ 82400)
+    × (word_cost (arcs (record squares { cost = Mix 0 3 })) 0 0 (V ∷ H ∷ V ∷ H ∷ V ∷ H ∷ V ∷ H ∷ []) ≡ 240000)
 unfolding arcs around distance_square square area_square
 mixed_word = (refl, refl)
 
 -- which weights are allowed
 weights : IsWeighted (Mix 1000 0) × IsWeighted (Mix 0 1000) × (IsWeighted (Mix 0 0) → ⊥) × (IsWeighted (Mix 1001 1) → ⊥)
-weights = ((omega arith, omega arith, omega arith), (omega arith, omega arith, omega arith), (λ w. omega (arith, w.2)), λ w. omega (arith, w.0))
+weights = (
+  (omega arith, omega arith, omega arith),
+  (omega arith, omega arith, omega arith),
+  (λ w. omega (arith, w.2)),
+  λ w. omega (arith, w.0),
+)
 
 squares_distance : distance (arcs squares) 0 0 4 4 ≡ 1200
 unfolding arcs around distance_square square distance words_with all_words
@@ -70,14 +76,16 @@ squares_offsets : (offset (arcs squares) 4 4 2 ≡ pos 300) × (offset (arcs squ
 unfolding arcs around distance_square square distance words_with all_words
 squares_offsets = (refl, refl)
 
-squares_potential : (potential (arcs squares) 4 4 1 1 ≡ pos 300) × (potential (arcs squares) 4 4 3 1 ≡ pos 800) × (potential (arcs squares) 4 4 4 3 ≡ pos 1100)
+squares_potential : (potential (arcs squares) 4 4 1 1 ≡ pos 300) × (potential (arcs squares) 4 4 3 1 ≡ pos 800)
+    × (potential (arcs squares) 4 4 4 3 ≡ pos 1100)
 unfolding arcs around distance_square square distance words_with all_words potential
 squares_potential = (refl, refl, refl)
 
 abbrev at : ℕ → ℕ → Cut
 at x y = record { x = pos x; y = pos y }
 
-squares_loop : slice_loop squares 10 5 0 0 (V ∷ H ∷ V ∷ H ∷ V ∷ H ∷ V ∷ H ∷ []) ≡ at 0 0 ∷ at 50 0 ∷ at 100 0 ∷ at 100 50 ∷ at 100 100 ∷ at 50 100 ∷ at 0 100 ∷ at 0 50 ∷ []
+squares_loop : slice_loop squares 10 5 0 0 (V ∷ H ∷ V ∷ H ∷ V ∷ H ∷ V ∷ H ∷ []) ≡ at 0 0 ∷ at 50 0 ∷ at 100 0
+    ∷ at 100 50 ∷ at 100 100 ∷ at 50 100 ∷ at 0 100 ∷ at 0 50 ∷ []
 unfolding around
 squares_loop = refl
 

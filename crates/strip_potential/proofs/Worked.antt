@@ -13,7 +13,8 @@ use Rattle.strip_graph.specs.Certificates.{value_at}
 use Rattle.strip_graph.proofs.Worked.{squares}
 use Rattle.strip_potential.specs.Rows.{potential_at, HasRow, HasRows}
 
-corners : (potential_at squares 0 0 ≡ pos 0) × (potential_at squares 4 4 ≡ pos 1200) × (potential_at squares 7 0 ≡ pos 1300)
+corners : (potential_at squares 0 0 ≡ pos 0) × (potential_at squares 4 4 ≡ pos 1200)
+    × (potential_at squares 7 0 ≡ pos 1300)
 unfolding arcs around distance_square square distance words_with all_words potential
 corners = (refl, refl, refl)
 

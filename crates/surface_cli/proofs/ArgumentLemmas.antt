@@ -25,7 +25,8 @@ use Rattle.surface_cli.specs.Taking.{HasValue}
 
 -- ---- searches
 
-find_some : (p : Entry → Bool) (xs : List Entry) (i : ℕ) → i < length xs → ((d : Entry) → p (slice_index_or xs i d) ≡ true)
+find_some : (p : Entry → Bool) (xs : List Entry) (i : ℕ) → i < length xs
+    → ((d : Entry) → p (slice_index_or xs i d) ≡ true)
     → is_some (option_map (λ e. e.1) (find p xs)) ≡ true
 find_some p [] i lt h = absurd (omega arith)
 find_some p (x ∷ xs) zero lt h = rw (h x) refl
@@ -53,7 +54,8 @@ head_passes : (P : Bor Text → Type 0) (how : Reading) (vs : List (Bor Text)) �
 head_passes P how [] h some = absurd (omega arith)
 head_passes P how (v ∷ vs) h some = (v, refl, All-get_or P (v ∷ vs) 0 v (omega arith) h)
 
-text_at : (f : Found) (id : Text) (x : MatchedArg) (how : Reading) (t : Text) → matched_of f id ≡ Some x → x.reading ≡ how
+text_at : (f : Found) (id : Text) (x : MatchedArg) (how : Reading) (t : Text) → matched_of f id ≡ Some x
+    → x.reading ≡ how
     → option_map (λ s. read_as how s.now) (slice_get x.vals.items 0) ≡ Some t → one_text f id ≡ Some t
 text_at f id x how t found is v = rw (found, is) v
 
@@ -64,17 +66,20 @@ accepts_as a y q t s case parser read =
     let as_q : Accepts y.ignore_case q t = subst (λ (w : ValueParser). Accepts y.ignore_case w t) is_q read in
     subst (λ (b : Bool). Accepts b q t) (s.ignore_case ∙ case) as_q
 
-module _ (c : Command) (m : ArgMatches) (p : IsParsedFrom c m) (plain : IsPlain c) (globals : (out-Command c).has_globals ≡ false)
+module _ (c : Command) (m : ArgMatches) (p : IsParsedFrom c m) (plain : IsPlain c)
+    (globals : (out-Command c).has_globals ≡ false)
     (negates : (out-Command c).subcommand_negates_reqs ≡ false) (k : ℕ) (d : Arg) (lt : k < length (args_of c))
     (sure : IsSureArg (slice_index_or (args_of c) k d))
-    (unique : (j : ℕ) (e : Arg) → j < length (args_of c) → bytes_eq (slice_index_or (args_of c) j e).id.now (slice_index_or (args_of c) k d).id.now ≡ true → j ≡ k)
+    (unique : (j : ℕ) (e : Arg) → j < length (args_of c)
+    → bytes_eq (slice_index_or (args_of c) j e).id.now (slice_index_or (args_of c) k d).id.now ≡ true → j ≡ k)
     (q : ValueParser) (parser : (slice_index_or (args_of c) k d).value_parser ≡ Some q) where
   abbrev pub the_arg : Arg
   the_arg = slice_index_or (args_of c) k d
 
   has_entry : is_some (matched_of (found_of m) the_arg.id.now) ≡ true
   has_entry = elim sure.given [
-    | inl required ↦ present_has_entry (found_of m) the_arg.id.now (required_present c m p plain globals negates k d lt required)
+    | inl required ↦ present_has_entry (found_of m) the_arg.id.now
+        (required_present c m p plain globals negates k d lt required)
     | inr wants ↦
         let has = default_present c m p globals k d lt wants in
         find_some (λ e. bytes_eq e.0.now the_arg.id.now) (found_of m).entries.items has.0 has.1 has.2
@@ -116,7 +121,8 @@ module _ (c : Command) (m : ArgMatches) (p : IsParsedFrom c m) (plain : IsPlain 
         ]
   ]
 
-  passes : (e : Entry) → e.0.now ≡ the_arg.id.now → EntryPasses p.built e → All (λ v. PassesArg p.built the_arg.id.now v.now) e.1.vals.items
+  passes : (e : Entry) → e.0.now ≡ the_arg.id.now → EntryPasses p.built e
+      → All (λ v. PassesArg p.built the_arg.id.now v.now) e.1.vals.items
   passes e key pass = elim pass.0 [
     | inl g ↦ absurd (no_group e key pass g)
     | inr vals ↦ subst (λ (w : Text). All (λ v. PassesArg p.built w v.now) e.1.vals.items) key vals
@@ -126,31 +132,37 @@ module _ (c : Command) (m : ArgMatches) (p : IsParsedFrom c m) (plain : IsPlain 
   read_by e key pass = elim pass.4 [
     | inl g ↦ absurd (no_group e key pass g)
     | inr h ↦
-        let any : HasReading p.built the_arg.id.now e.1.reading = subst (λ (w : Text). HasReading p.built w e.1.reading) key h in
+        let any : HasReading p.built the_arg.id.now e.1.reading =
+        subst (λ (w : Text). HasReading p.built w e.1.reading) key h in
         let s = same_rules any.0 any.1 any.2 any.3 any.4.0 in
         let is_q : parser_of any.1 ≡ q = ap parser_of_value (s.parser q parser) in
         sym any.4.1 ∙ ap reading_of is_q
   ]
 
-  value_in : (x : MatchedArg) (e : Entry) → matched_of (found_of m) the_arg.id.now ≡ Some x → e.1 ≡ x → e.0.now ≡ the_arg.id.now → EntryPasses p.built e
+  value_in : (x : MatchedArg) (e : Entry) → matched_of (found_of m) the_arg.id.now ≡ Some x → e.1 ≡ x
+      → e.0.now ≡ the_arg.id.now → EntryPasses p.built e
       → HasValue q the_arg.id.now (found_of m)
   value_in x e found same key pass =
-      let v = head_passes (λ v. PassesArg p.built the_arg.id.now v.now) (reading_of q) e.1.vals.items (passes e key pass) (filled e key pass) in
+      let v = head_passes (λ v. PassesArg p.built the_arg.id.now v.now) (reading_of q) e.1.vals.items
+      (passes e key pass) (filled e key pass) in
       let s = same_rules v.2.0 v.2.1 v.2.2 v.2.3 v.2.4.0 in (
         v.0.now,
-        text_at (found_of m) the_arg.id.now e.1 (reading_of q) (read_as (reading_of q) v.0.now) (found ∙ ap Some (sym same)) (read_by e key pass) v.1,
+        text_at (found_of m) the_arg.id.now e.1 (reading_of q) (read_as (reading_of q) v.0.now)
+            (found ∙ ap Some (sym same)) (read_by e key pass) v.1,
         accepts_as the_arg v.2.1 q v.0.now s sure.same_case parser v.2.4.1,
       )
 
   value_at : (x : MatchedArg) → matched_of (found_of m) the_arg.id.now ≡ Some x → HasValue q the_arg.id.now (found_of m)
   value_at x found =
-      let got = entry_by_id (EntryPasses p.built) (found_of m).entries.items the_arg.id.now x (p.parsed (p.from.globals ∙ globals)).values found in
+      let got = entry_by_id (EntryPasses p.built) (found_of m).entries.items the_arg.id.now x
+      (p.parsed (p.from.globals ∙ globals)).values found in
       value_in x got.0 found got.1 ((bytes_eq-Decides got.0.0.now the_arg.id.now).0 got.2) got.3
 
   pub has_value : HasValue q the_arg.id.now (found_of m)
   has_value = go (matched_of (found_of m) the_arg.id.now) refl has_entry
     where
-      go : (o : Option MatchedArg) → matched_of (found_of m) the_arg.id.now ≡ o → is_some (matched_of (found_of m) the_arg.id.now) ≡ true
+      go : (o : Option MatchedArg) → matched_of (found_of m) the_arg.id.now ≡ o
+          → is_some (matched_of (found_of m) the_arg.id.now) ≡ true
           → HasValue q the_arg.id.now (found_of m)
       go None e h =
           let bad : false ≡ true = rw e at h in

@@ -27,7 +27,8 @@ use Rattle.clap.proofs.TakesLemmas.{each_rule}
 use Rattle.surface_cli.specs.Taking.{HasValue, HasValues, are_distinct, is_set, is_sure, is_sure_app}
 use Rattle.surface_cli.proofs.ArgumentLemmas.{IsSureArg, has_value}
 
-repeated : (x : Text) (xs : List Text) (k : ℕ) (d : Text) → are_distinct (x ∷ xs) ≡ true → k < length xs → x ≡ slice_index_or xs k d → ⊥
+repeated : (x : Text) (xs : List Text) (k : ℕ) (d : Text) → are_distinct (x ∷ xs) ≡ true → k < length xs
+    → x ≡ slice_index_or xs k d → ⊥
 repeated x xs k d distinct lt same =
     let none = is_false _ (both (not (list_any (λ other. bytes_eq x other) xs)) _ distinct).0 in
     let hit = list_any_at (λ other. bytes_eq x other) xs k d lt ((bytes_eq-Decides x (slice_index_or xs k d)).1 same) in
@@ -41,7 +42,8 @@ one_place (x ∷ xs) zero zero d e distinct lj lk same = refl
 one_place (x ∷ xs) zero (suc k) d e distinct lj lk same = absurd (repeated x xs k d distinct (omega arith) same)
 one_place (x ∷ xs) (suc j) zero d e distinct lj lk same = absurd (repeated x xs j e distinct (omega arith) (sym same))
 one_place (x ∷ xs) (suc j) (suc k) d e distinct lj lk same =
-    ap suc (one_place xs j k d e (both (not (list_any (λ other. bytes_eq x other) xs)) _ distinct).1 (omega arith) (omega arith) same)
+    ap suc (one_place xs j k d e (both (not (list_any (λ other. bytes_eq x other) xs)) _ distinct).1 (omega arith)
+    (omega arith) same)
 
 -- ---- all the arguments of a command
 
@@ -83,13 +85,21 @@ sure_arg a simple e case =
     record {
       given = elim (or_cases a.required _ p.0) [
         | inl required ↦ inl required
-        | inr some ↦ inr (is_nil _ v.0, rw (length-map (items_of a.default_vals) (λ (s : Bor Text). s.now)) at (is_some_of _ some))
+        | inr some ↦ inr (
+          is_nil _ v.0,
+          rw (length-map (items_of a.default_vals) (λ (s : Bor Text). s.now)) at
+              (is_some_of _ some),
+        )
       ];
       action = only_set a.action q.0;
       delimiter = is_none a.val_delim x.0;
       least = rw one one_is_least;
       named = λ empty. absurd (named_of a.id.now s.0 empty);
-      own = λ auto. elim auto [ inl h ↦ differs a.id.now (codes "help") t.0 h | inr h ↦ differs a.id.now (codes "version") t.1 h ];
+      own = λ auto. elim auto [
+        | inl h ↦ differs a.id.now (codes "help") t.0 h
+        | inr h ↦ differs a.id.now
+            (codes "version") t.1 h
+      ];
       same_case = case;
     }
   where
@@ -102,7 +112,8 @@ sure_arg a simple e case =
         let bad : 0 < 0 = rw empty at some in
         omega arith
 
-plain_args : (c : Command) → list_all (λ r. r.is_simple) (map rule_of (args_of c)) ≡ true → list_all (λ r. r.is_free) (map rule_of (args_of c)) ≡ true
+plain_args : (c : Command) → list_all (λ r. r.is_simple) (map rule_of (args_of c)) ≡ true
+    → list_all (λ r. r.is_free) (map rule_of (args_of c)) ≡ true
     → All IsPlainArg (args_of c)
 plain_args c simple free k d lt =
     let p = both _ _ (each_rule (λ r. r.is_simple) (args_of c) simple k d lt) in
@@ -116,37 +127,48 @@ some_arg : (xs : List Arg) (k : ℕ) → k < length xs → Arg
 some_arg [] k lt = absurd (omega arith)
 some_arg (x ∷ xs) k lt = x
 
-id_at : (xs : List Arg) (k : ℕ) (d : Arg) → k < length xs → slice_index_or (map (λ r. r.id) (map rule_of xs)) k d.id.now ≡ (slice_index_or xs k d).id.now
+id_at : (xs : List Arg) (k : ℕ) (d : Arg) → k < length xs
+    → slice_index_or (map (λ r. r.id) (map rule_of xs)) k d.id.now ≡ (slice_index_or xs k d).id.now
 id_at xs k d lt =
     get_or-map (λ (r : Rule). r.id) (map rule_of xs) k (rule_of d) d.id.now (rw (length-map xs rule_of) lt)
     ∙ ap (λ (r : Rule). r.id) (get_or-map rule_of xs k d (rule_of d) lt)
 
-one_arg : (xs : List Arg) → are_distinct (map (λ r. r.id) (map rule_of xs)) ≡ true → (j k : ℕ) (d e : Arg) → j < length xs → k < length xs
+one_arg : (xs : List Arg) → are_distinct (map (λ r. r.id) (map rule_of xs)) ≡ true → (j k : ℕ) (d e : Arg)
+    → j < length xs → k < length xs
     → bytes_eq (slice_index_or xs j e).id.now (slice_index_or xs k d).id.now ≡ true → j ≡ k
 one_arg xs distinct j k d e lj lk same =
-    let count : length (map (λ r. r.id) (map rule_of xs)) ≡ length xs = length-map (map rule_of xs) (λ (r : Rule). r.id) ∙ length-map xs rule_of in
+    let count : length (map (λ r. r.id) (map rule_of xs)) ≡ length xs = length-map (map rule_of xs) (λ (r : Rule). r.id)
+    ∙ length-map xs rule_of in
     one_place (map (λ r. r.id) (map rule_of xs)) j k d.id.now e.id.now distinct (rw count lj) (rw count lk)
     (id_at xs j e lj ∙ ((bytes_eq-Decides _ _).0 same ∙ sym (id_at xs k d lk)))
 
 -- after a parse of a sure command, each argument has a value that passed its parser
-pub has_values : (c : Command) (m : ArgMatches) → IsParsedFrom c m → is_sure_app (app_of c) ≡ true → HasValues (map rule_of (args_of c)) (found_of m)
+pub has_values : (c : Command) (m : ArgMatches) → IsParsedFrom c m → is_sure_app (app_of c) ≡ true
+    → HasValues (map rule_of (args_of c)) (found_of m)
 has_values c m p e k r lt parser has case =
     let rules = map rule_of (args_of c) in
     let a = both (is_simple_and_free (app_of c)) _ e in
     let f = both (list_all (λ r. r.is_free) rules) _ a.1 in
     let n = both (not (app_of c).top.subcommand_negates_reqs) _ f.1 in
     let s = both (list_all is_sure rules) (are_distinct (map (λ r. r.id) rules)) n.1 in
-    let simple = both (app_of c).top.is_plain _ (both (has_simple_rules (app_of c).top) _ (both (is_buildable (app_of c)) _ (both (is_simple (app_of c)) _ a.0).0).0).0 in
+    let simple = both (app_of c).top.is_plain _
+    (both (has_simple_rules (app_of c).top) _
+    (both (is_buildable (app_of c)) _ (both (is_simple (app_of c)) _ a.0).0).0).0 in
     let fields = plain_fields c simple.0 in
     let plain : IsPlain c = (plain_args c simple.1 f.0, fields.groups) in
     let low : k < length (args_of c) = rw (length-map (args_of c) rule_of) at lt in
     let d = some_arg (args_of c) k low in
-    let place : slice_index_or rules k r ≡ rule_of (slice_index_or (args_of c) k d) = get_or-map rule_of (args_of c) k d r low in
-    let is_parser : (slice_index_or (args_of c) k d).value_parser ≡ Some parser = ap (λ (r : Rule). r.parser) (sym place) ∙ has in
-    let no_case : (slice_index_or (args_of c) k d).ignore_case ≡ false = ap (λ (r : Rule). r.ignore_case) (sym place) ∙ case in
-    let sure = sure_arg (slice_index_or (args_of c) k d) (each_rule (λ r. r.is_simple) (args_of c) simple.1 k d low) (each_rule is_sure (args_of c) s.0 k d low) no_case in
+    let place : slice_index_or rules k r ≡ rule_of (slice_index_or (args_of c) k d) =
+    get_or-map rule_of (args_of c) k d r low in
+    let is_parser : (slice_index_or (args_of c) k d).value_parser ≡ Some parser =
+    ap (λ (r : Rule). r.parser) (sym place) ∙ has in
+    let no_case : (slice_index_or (args_of c) k d).ignore_case ≡ false = ap (λ (r : Rule). r.ignore_case) (sym place)
+    ∙ case in
+    let sure = sure_arg (slice_index_or (args_of c) k d) (each_rule (λ r. r.is_simple) (args_of c) simple.1 k d low)
+    (each_rule is_sure (args_of c) s.0 k d low) no_case in
     subst (λ (r : Rule). HasValue parser r.id (found_of m)) (sym place)
-    (has_value c m p plain fields.globals (is_false _ n.0) k d low sure (λ j e lj same. one_arg (args_of c) s.1 j k d e lj low same) parser is_parser)
+    (has_value c m p plain fields.globals (is_false _ n.0) k d low sure
+    (λ j e lj same. one_arg (args_of c) s.1 j k d e lj low same) parser is_parser)
 
 -- a list that has a kind is not empty
 pub among_some : (k : ErrorKind) (kinds : Kinds) → IsAmong k kinds → kinds ≢ []

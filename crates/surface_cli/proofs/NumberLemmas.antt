@@ -11,7 +11,8 @@ use Rattle.clap.proofs.CallerReads.{signed_reads}
 use Rattle.surface_cli.specs.Arguments.{integer_of, natural_of}
 use Rattle.surface_cli.specs.Taking.{HasNatural, HasValue}
 
-value_read : (E : Type 0) (G : Text → Result ℕ E → Type 0) (t : Text) (n : ℕ) → G t (Ok n) → ((u : Text) (x : Result ℕ E) → G u x → ParsesUnsigned 32 10 u x)
+value_read : (E : Type 0) (G : Text → Result ℕ E → Type 0) (t : Text) (n : ℕ) → G t (Ok n)
+    → ((u : Text) (x : Result ℕ E) → G u x → ParsesUnsigned 32 10 u x)
     → n ≡ digits_value 10 (without_leading_plus t)
 value_read E G t n read only = (only t (Ok n) read).1
 
@@ -30,7 +31,8 @@ natural_read E G f id least most r has value only =
     let of_n : G (without_minus t) (Ok got.0) = subst (λ (o : Option ℕ). ReadsOne G (without_minus t) o) got.1 read in (
       got.0,
       got.1,
-      value_read E G (without_minus t) got.0 of_n only ∙ ap (λ (u : Text). digits_value 10 (without_leading_plus u)) (text_of f id (without_minus t) has.1.1),
+      value_read E G (without_minus t) got.0 of_n only
+          ∙ ap (λ (u : Text). digits_value 10 (without_leading_plus u)) (text_of f id (without_minus t) has.1.1),
       got.2,
       got.3,
     )
@@ -45,12 +47,14 @@ pub height_read : (E : Type 0) (G : Text → Result ℤ E → Type 0) (f : Found
     → (z : ℤ) × (r ≡ Some z) × (z ≡ integer_of id (rows_of f)) × (unsigned_abs z ≤ 999999)
 height_read E G f id r has value only = go r (value has.0 has.1)
   where
-    go : (o : Option ℤ) → ReadsOne G has.0 o → (z : ℤ) × (o ≡ Some z) × (z ≡ integer_of id (rows_of f)) × (unsigned_abs z ≤ 999999)
+    go : (o : Option ℤ) → ReadsOne G has.0 o → (z : ℤ) × (o ≡ Some z) × (z ≡ integer_of id (rows_of f))
+        × (unsigned_abs z ≤ 999999)
     go (Some z) read =
         let is : z ≡ signed_digits_value 10 has.0 = (only has.0 (Ok z) read).1 in
         let bound = small (signed_digits_value 10 has.0) has.2.2 has.2.3 in
         (z, refl, is ∙ ap (signed_digits_value 10) (text_of f id has.0 has.1), rw is bound)
     go None read =
         let bound = small (signed_digits_value 10 has.0) has.2.2 has.2.3 in
-        let fits : FitsSigned w32 (signed_digits_value 10 has.0) = fits_signed_from_abs w32 (signed_digits_value 10 has.0) (omega arith) in
+        let fits : FitsSigned w32 (signed_digits_value 10 has.0) =
+        fits_signed_from_abs w32 (signed_digits_value 10 has.0) (omega arith) in
         absurd (only has.0 (Err read.0) read.1 (has.2.0, fits))

@@ -19,12 +19,14 @@ taken_none app wanted value words o is taken none =
     refused (fault_of wanted words) (value (matches_of wanted words)) here
 
 -- and if it takes them, they mean the command of its matches
-pub taken_some : (app wanted : App) (value : List Row → Task) (words : List Text) (o : Option ArgMatches) (m : ArgMatches) → app ≡ wanted
+pub taken_some : (app wanted : App) (value : List Row → Task) (words : List Text) (o : Option ArgMatches)
+    (m : ArgMatches) → app ≡ wanted
     → IsTaken app words o → o ≡ Some m → Some (value (rows_of (found_of m))) ≡ where_taken wanted value words
 unfolding where_taken
 taken_some app wanted value words o m is taken some =
     let here : IsTaken wanted words (Some m) = rw (is, some) at taken in
-    ap (λ rows. Some (value rows)) here.1 ∙ ap (λ kinds. unless_refused kinds (value (matches_of wanted words))) (sym here.0)
+    ap (λ rows. Some (value rows)) here.1
+    ∙ ap (λ kinds. unless_refused kinds (value (matches_of wanted words))) (sym here.0)
 
 -- there each argument has a value
 pub taken_values : (app wanted : App) (words : List Text) (o : Option ArgMatches) (m : ArgMatches) → app ≡ wanted

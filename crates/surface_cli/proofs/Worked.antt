@@ -5,7 +5,8 @@ use Rattle.command_replies.specs.declared.status.Status.TheVariants.{ReadFault, 
 use Rattle.surface_cli.specs.Commands.{input_limit}
 use Rattle.surface_cli.specs.Run.{Outside, Runs}
 
-limits_of_the_inputs : (input_limit Tilings ≡ Some 67108864) × (input_limit Check ≡ Some 2147483648) × (input_limit Count ≡ Some 268435456) × (input_limit (Demo 7 40 200) ≡ None)
+limits_of_the_inputs : (input_limit Tilings ≡ Some 67108864) × (input_limit Check ≡ Some 2147483648)
+    × (input_limit Count ≡ Some 268435456) × (input_limit (Demo 7 40 200) ≡ None)
 limits_of_the_inputs = (refl, refl, refl, refl)
 
 -- an outside whose sink had no byte and then one, without a fault

@@ -40,15 +40,19 @@ solves = record { chosen = squares_solved.chosen; cost = squares_solved.cost }
 solved : SolvesEach (pair.strip ∷ []) (squares_solution ∷ [])
 solved = record { count = refl; each = each }
   where
-    each : (k : ℕ) (p : Strip) (s : Solution) → k < 1 → Solves (slice_index_or (pair.strip ∷ []) k p) (slice_index_or (squares_solution ∷ []) k s)
+    each : (k : ℕ) (p : Strip) (s : Solution) → k < 1
+        → Solves (slice_index_or (pair.strip ∷ []) k p) (slice_index_or (squares_solution ∷ []) k s)
     each zero p s l = solves
     each (suc k) p s l = absurd (omega (arith, l))
 
 -- ---- `tilings`: their pair has the alternating tiling, which costs 1,200
 abbrev squares_text : List ℕ
-squares_text = codes "SECTIONS 1\nCOST span\nPAIR overlap\nSECTION 0\nCONTOUR a 4\n0 0\n10 0\n10 10\n0 10\nSECTION 10\nCONTOUR b 4\n0 0\n10 0\n10 10\n0 10\nEND\n"
+squares_text =
+    codes
+    "SECTIONS 1\nCOST span\nPAIR overlap\nSECTION 0\nCONTOUR a 4\n0 0\n10 0\n10 10\n0 10\nSECTION 10\nCONTOUR b 4\n0 0\n10 0\n10 10\n0 10\nEND\n"
 
-listing : IsLeastListing squares_text (codes "PAIR 1 GAP 1\nBELOW a\nABOVE b\nROWS 4 COLS 4 COST 1200 START 0\nWORD VHVHVHVH\nPAIRS 1\n")
+listing : IsLeastListing squares_text
+    (codes "PAIR 1 GAP 1\nBELOW a\nABOVE b\nROWS 4 COLS 4 COST 1200 START 0\nWORD VHVHVHVH\nPAIRS 1\n")
 unfolding digits
 listing = record {
   objects = one_stack;
@@ -56,40 +60,99 @@ listing = record {
   pairs = (pair ∷ []) ∷ [];
   are_pairs = one_paired;
   tilings = squares_solution ∷ [];
-  acceptable = record { count = refl; acceptable = λ k p x l. (solved.each k p x l).chosen.least.acceptable; cost = λ k p x l. (solved.each k p x l).cost };
+  acceptable = record {
+    count = refl;
+    acceptable = λ k p x l. (solved.each k p x l).chosen.least.acceptable;
+    cost =
+        λ k p x l. (solved.each k p x l).cost;
+  };
   least = are_least (pair.strip ∷ []) (squares_solution ∷ []) solved;
   written = refl;
 }
 
 -- a text without a byte lists nothing
 not_empty : (input : List ℕ) → IsLeastListing input [] → ⊥
-not_empty input h = ends (objects_text h.objects.version 1 h.objects.objects h.pairs h.tilings) (codes "AIRS " ++ (decimal (length (numbered h.pairs)) ++ codes "\n")) 80 h.written
+not_empty input h = ends (objects_text h.objects.version 1 h.objects.objects h.pairs h.tilings)
+    (codes "AIRS " ++ (decimal (length (numbered h.pairs)) ++ codes "\n")) 80 h.written
   where
     ends : (front back : List ℕ) (b : ℕ) → [] ≡ front ++ b ∷ back → ⊥
     ends front back b e = omega (arith, ap length e, length-append front (b ∷ back))
 
 -- ---- `check`: the certificate of that tiling, after the text of the squares
 abbrev numbers : List ℤ
-numbers = pos 0 ∷ pos 200 ∷ pos 500 ∷ pos 700 ∷ pos 800 ∷ pos 200 ∷ pos 300 ∷ pos 500 ∷ pos 800 ∷ pos 1000 ∷ pos 300 ∷ pos 500 ∷ pos 600 ∷ pos 800 ∷ pos 1100 ∷ pos 500 ∷ pos 800 ∷ pos 800 ∷ pos 900 ∷ pos 1100 ∷ pos 600 ∷ pos 800 ∷ pos 1100 ∷ pos 1100 ∷ pos 1200 ∷ pos 800 ∷ pos 900 ∷ pos 1100 ∷ pos 1400 ∷ pos 1400 ∷ pos 1100 ∷ pos 1100 ∷ pos 1200 ∷ pos 1400 ∷ pos 1700 ∷ pos 1300 ∷ pos 1400 ∷ pos 1400 ∷ pos 1500 ∷ pos 1700 ∷ []
+numbers = pos 0 ∷ pos 200 ∷ pos 500 ∷ pos 700 ∷ pos 800 ∷ pos 200 ∷ pos 300 ∷ pos 500 ∷ pos 800 ∷ pos 1000 ∷ pos 300
+    ∷ pos 500 ∷ pos 600 ∷ pos 800 ∷ pos 1100 ∷ pos 500 ∷ pos 800 ∷ pos 800 ∷ pos 900 ∷ pos 1100 ∷ pos 600 ∷ pos 800
+    ∷ pos 1100 ∷ pos 1100 ∷ pos 1200 ∷ pos 800 ∷ pos 900 ∷ pos 1100 ∷ pos 1400 ∷ pos 1400 ∷ pos 1100 ∷ pos 1100
+    ∷ pos 1200 ∷ pos 1400 ∷ pos 1700 ∷ pos 1300 ∷ pos 1400 ∷ pos 1400 ∷ pos 1500 ∷ pos 1700 ∷ []
 
 abbrev certified_text : List ℕ
-certified_text = codes "SECTIONS 1\nCOST span\nPAIR overlap\nSECTION 0\nCONTOUR a 4\n0 0\n10 0\n10 10\n0 10\nSECTION 10\nCONTOUR b 4\n0 0\n10 0\n10 10\n0 10\nEND\nCERT 1 PAIR 1 ROWS 4 COLS 4 COST 1200 START 0\nWORD VHVHVHVH\n0 200 500 700 800\n200 300 500 800 1000\n300 500 600 800 1100\n500 800 800 900 1100\n600 800 1100 1100 1200\n800 900 1100 1400 1400\n1100 1100 1200 1400 1700\n1300 1400 1400 1500 1700\nEND\n"
+certified_text =
+    codes
+    "SECTIONS 1\nCOST span\nPAIR overlap\nSECTION 0\nCONTOUR a 4\n0 0\n10 0\n10 10\n0 10\nSECTION 10\nCONTOUR b 4\n0 0\n10 0\n10 10\n0 10\nEND\nCERT 1 PAIR 1 ROWS 4 COLS 4 COST 1200 START 0\nWORD VHVHVHVH\n0 200 500 700 800\n200 300 500 800 1000\n300 500 600 800 1100\n500 800 800 900 1100\n600 800 1100 1100 1200\n800 900 1100 1400 1400\n1100 1100 1200 1400 1700\n1300 1400 1400 1500 1700\nEND\n"
 
 abbrev tail : List Kept
-tail = kept_behind 16 (codes "CERT 1 PAIR 1 ROWS 4 COLS 4 COST 1200 START 0\nWORD VHVHVHVH\n0 200 500 700 800\n200 300 500 800 1000\n300 500 600 800 1100\n500 800 800 900 1100\n600 800 1100 1100 1200\n800 900 1100 1400 1400\n1100 1100 1200 1400 1700\n1300 1400 1400 1500 1700\nEND\n")
+tail =
+    kept_behind 16
+    (codes
+    "CERT 1 PAIR 1 ROWS 4 COLS 4 COST 1200 START 0\nWORD VHVHVHVH\n0 200 500 700 800\n200 300 500 800 1000\n300 500 600 800 1100\n500 800 800 900 1100\n600 800 1100 1100 1200\n800 900 1100 1400 1400\n1100 1100 1200 1400 1700\n1300 1400 1400 1500 1700\nEND\n")
 
 abbrev cert : Vec ℤ Global → CertText
-cert v = record { pair = 1; cert = record { rows = 4; cols = 4; cost = pos 1200; tiling = record { row = 0; word = list_at v by_turns tt }; pi = list_at v numbers tt } }
+cert v = record {
+  pair = 1;
+  cert =
+      record {
+        rows = 4;
+        cols = 4;
+        cost = pos 1200;
+        tiling = record { row = 0; word = list_at v by_turns tt };
+        pi =
+            list_at v numbers tt;
+      };
+}
 
 read : (v : Vec ℤ Global) → ReadsAsCertificate tail (certificate_parts (cert v))
 read v = record {
   lawful = record {
-    head = record { pair = (omega arith, omega arith); rows = (omega arith, omega arith); cols = (omega arith, omega arith); cost = omega arith; start = omega arith };
+    head = record {
+      pair = (omega arith, omega arith);
+      rows = (omega arith, omega arith);
+      cols =
+          (omega arith, omega arith);
+      cost = omega arith;
+      start = omega arith;
+    };
     word = (omega arith, omega arith);
     count = refl;
     values = modest numbers tt;
   };
-  match = ((refl, (refl, (refl, (refl, (refl, (refl, (refl, (refl, (refl, (refl, (refl, (refl, tt)))))))))))), ((refl, (refl, tt)), ((refl, (refl, (refl, (refl, (refl, tt))))), ((refl, (refl, (refl, (refl, (refl, tt))))), ((refl, (refl, (refl, (refl, (refl, tt))))), ((refl, (refl, (refl, (refl, (refl, tt))))), ((refl, (refl, (refl, (refl, (refl, tt))))), ((refl, (refl, (refl, (refl, (refl, tt))))), ((refl, (refl, (refl, (refl, (refl, tt))))), ((refl, (refl, (refl, (refl, (refl, tt))))), ((refl, tt), tt)))))))))));
+  match = (
+    (refl, (refl, (refl, (refl, (refl, (refl, (refl, (refl, (refl, (refl, (refl, (refl, tt)))))))))))),
+    (
+      (refl, (refl, tt)),
+      (
+        (refl, (refl, (refl, (refl, (refl, tt))))),
+        (
+          (refl, (refl, (refl, (refl, (refl, tt))))),
+          (
+            (refl, (refl, (refl, (refl, (refl, tt))))),
+            (
+              (refl, (refl, (refl, (refl, (refl, tt))))),
+              (
+                (refl, (refl, (refl, (refl, (refl, tt))))),
+                (
+                  (refl, (refl, (refl, (refl, (refl, tt))))),
+                  (
+                    (refl, (refl, (refl, (refl, (refl, tt))))),
+                    ((refl, (refl, (refl, (refl, (refl, tt))))), ((refl, tt), tt)),
+                  ),
+                ),
+              ),
+            ),
+          ),
+        ),
+      ),
+    ),
+  );
 }
 
 accepted : (v : Vec ℤ Global) → IsCertifiedInput certified_text 1 (pos 1200)
@@ -104,7 +167,12 @@ accepted v = record {
   are_pairs = ((pair ∷ []) ∷ [], one_paired, refl);
   pair = pair;
   is_pair = record { place = 0; counted = refl; there = refl };
-  least = record { acceptable = solves.chosen.least.acceptable; cost = solves.cost; least = λ i j w a. solves_least pair.strip squares_solution solves i j w a };
+  least = record {
+    acceptable = solves.chosen.least.acceptable;
+    cost = solves.cost;
+    least =
+        λ i j w a. solves_least pair.strip squares_solution solves i j w a;
+  };
 }
 
 -- the line `ACCEPT PAIR 1 COST 1200` states this for that pair and cost, and for no others
@@ -113,7 +181,8 @@ unfolding digits
 judged v k c e =
     let line : codes "ACCEPT PAIR 1 COST 1200\n" ≡ verdict_text 1 (pos 1200) Accept = refl in
     let same = accepted_line k 1 c (pos 1200) Accept (omega arith) (omega arith) (sym e ∙ line) in
-    subst (λ (m : ℕ). IsCertifiedInput certified_text m c) (sym same.1) (subst (λ (d : ℤ). IsCertifiedInput certified_text 1 d) (sym same.2) (accepted v))
+    subst (λ (m : ℕ). IsCertifiedInput certified_text m c) (sym same.1)
+    (subst (λ (d : ℤ). IsCertifiedInput certified_text 1 d) (sym same.2) (accepted v))
 
 -- pairs are counted from 1
 no_pair_0 : (input : List ℕ) (c : ℤ) → IsCertifiedInput input 0 c → ⊥

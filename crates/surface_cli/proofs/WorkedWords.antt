@@ -78,7 +78,8 @@ too_many_workers : meaning (codes "report" ∷ codes "--workers=65" ∷ []) ≡ 
 unfolding clap_on_literals meaning where_taken
 too_many_workers = refl
 
-any_order : meaning (codes "slice" ∷ codes "--workers=2" ∷ codes "--height=999999" ∷ []) ≡ Some (task (Slice (pos 999999)) 2)
+any_order : meaning (codes "slice" ∷ codes "--workers=2" ∷ codes "--height=999999" ∷ [])
+    ≡ Some (task (Slice (pos 999999)) 2)
 unfolding clap_on_literals meaning where_taken
 any_order = refl
 
@@ -86,7 +87,8 @@ too_high : meaning (codes "slice" ∷ codes "--height=1000000" ∷ []) ≡ None
 unfolding clap_on_literals meaning where_taken
 too_high = refl
 
-largest_demo : meaning (codes "demo" ∷ codes "2147483647" ∷ codes "64" ∷ codes "1000" ∷ []) ≡ Some (task (Demo 2147483647 64 1000) 1)
+largest_demo : meaning (codes "demo" ∷ codes "2147483647" ∷ codes "64" ∷ codes "1000" ∷ [])
+    ≡ Some (task (Demo 2147483647 64 1000) 1)
 unfolding clap_on_literals meaning where_taken
 largest_demo = refl
 

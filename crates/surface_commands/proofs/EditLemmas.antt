@@ -45,17 +45,22 @@ counted_twice (suc m) (suc n) a b c d e =
     e ∙ sum ∙ sym (counted_some (suc m + suc n) a (omega arith))
 
 -- an edit with an answer is applied, if it is not refused
-applied_more : (S T U : Parts) (e : Option Edit) (es : List (Option Edit)) (a : LineAnswer) → IsLineAnswer S e a T → AreApplied T (edits_in es) U → AreApplied S (edits_in (e ∷ es)) U
+applied_more : (S T U : Parts) (e : Option Edit) (es : List (Option Edit)) (a : LineAnswer) → IsLineAnswer S e a T
+    → AreApplied T (edits_in es) U → AreApplied S (edits_in (e ∷ es)) U
 applied_more S T U None es (Ok done) h more = absurd h
 applied_more S T U None es (Err fault) h more = subst (λ (V : Parts). AreApplied V (edits_in es) U) h.1 more
 applied_more S T U (Some e) es (Ok done) h more = (T, inl h.0, more)
 applied_more S T U (Some e) es (Err fault) h more = (T, inr (h.1, fault, h.0), more)
 
 -- some lines are answered: answers to the others after them complete those to all
-pub record SoFar (S : Parts) (lines rest : List Line) (count : ℕ) (old text : List ℕ) (T : Parts) (before now : ℕ) : Type 0 where
-  pub whole : (x : Editing) → IsEditing T rest x → HasEdited S lines (count + length x.answers) old (text ++ answers_text (count + 1) x.answers) x.sections before (counted (sum_by solved_for x.answers) now)
+pub record SoFar (S : Parts) (lines rest : List Line) (count : ℕ) (old text : List ℕ) (T : Parts) (before now : ℕ) :
+    Type 0 where
+  pub whole : (x : Editing) → IsEditing T rest x
+      → HasEdited S lines (count + length x.answers) old (text ++ answers_text (count + 1) x.answers) x.sections before
+      (counted (sum_by solved_for x.answers) now)
 
-pub none_yet : (S : Parts) (lines : List Line) (old : List ℕ) (before : ℕ) → SoFar S lines lines 0 old old S before before
+pub none_yet : (S : Parts) (lines : List Line) (old : List ℕ) (before : ℕ)
+    → SoFar S lines lines 0 old old S before before
 none_yet S lines old before = record {
   whole = λ x is. record {
     editing = x;
@@ -67,7 +72,8 @@ none_yet S lines old before = record {
   };
 }
 
-pub one_more : (S T U : Parts) (lines all rest : List Line) (line : Line) (count : ℕ) (old text new : List ℕ) (before now after : ℕ) → SoFar S lines all count old text T before now → all ≡ line ∷ rest
+pub one_more : (S T U : Parts) (lines all rest : List Line) (line : Line) (count : ℕ) (old text new : List ℕ)
+    (before now after : ℕ) → SoFar S lines all count old text T before now → all ≡ line ∷ rest
     → HasAnswered T line (count + 1) text new U now after → SoFar S lines rest (count + 1) old new U before after
 one_more S T U lines all rest line count old text new before now after given e h =
     let so = subst (λ (ls : List Line). SoFar S lines ls count old text T before now) e given in
@@ -83,21 +89,26 @@ one_more S T U lines all rest line count old text new before now after given e h
             applied = applied_more T U x.sections e x.edits a h.applied.2 is.applied;
           }) in
           let rest_text = answers_text (count + 1 + 1) x.answers in
-          let sum : sum_by solved_for (a ∷ x.answers) ≡ solved_for a + sum_by solved_for x.answers = sum_by-cons solved_for a x.answers in
+          let sum : sum_by solved_for (a ∷ x.answers) ≡ solved_for a + sum_by solved_for x.answers =
+          sum_by-cons solved_for a x.answers in
           record {
             editing = more.editing;
             is_editing = more.is_editing;
             text = ap (λ (t : List ℕ). t ++ rest_text) h.text ∙ append_assoc text _ rest_text ∙ more.text;
             number = omega (arith, more.number);
             sections = more.sections;
-            raised = counted_twice (solved_for a) (sum_by solved_for x.answers) now after (counted (sum_by solved_for x.answers) after) h.applied.3 refl ∙ ap (λ (k : ℕ). counted k now) (sym sum) ∙ more.raised;
+            raised = counted_twice (solved_for a) (sum_by solved_for x.answers) now after
+                (counted (sum_by solved_for x.answers) after) h.applied.3 refl ∙ ap (λ (k : ℕ). counted k now) (sym sum)
+                ∙ more.raised;
           };
     }
 
-pub all_answered : (S T : Parts) (lines all : List Line) (count : ℕ) (old text : List ℕ) (before now : ℕ) → SoFar S lines all count old text T before now → all ≡ [] → HasEdited S lines count old text T before now
+pub all_answered : (S T : Parts) (lines all : List Line) (count : ℕ) (old text : List ℕ) (before now : ℕ)
+    → SoFar S lines all count old text T before now → all ≡ [] → HasEdited S lines count old text T before now
 all_answered S T lines all count old text before now given e =
     let so = subst (λ (ls : List Line). SoFar S lines ls count old text T before now) e given in
-    let more = so.whole (record { edits = []; answers = []; sections = T }) (record { read = tt; answered = refl; applied = refl }) in
+    let more = so.whole (record { edits = []; answers = []; sections = T })
+    (record { read = tt; answered = refl; applied = refl }) in
     record {
       editing = more.editing;
       is_editing = more.is_editing;
@@ -114,10 +125,12 @@ behind_more kept rest i k e = sym (drop-drop 1 i kept) ∙ ap (drop 1) e
 pub behind_all : (kept : List Kept) (i n : ℕ) → i ≤ n → drop i kept ≡ [] → drop n kept ≡ []
 behind_all kept i n l e =
     let whole : i + (n - i) ≡ n = omega (arith, l) in
-    subst (λ (m : ℕ). drop m kept ≡ []) whole (sym (drop-drop (n - i) i kept) ∙ drop_all (n - i) (drop i kept) (omega (arith, ap length e)))
+    subst (λ (m : ℕ). drop m kept ≡ []) whole
+    (sym (drop-drop (n - i) i kept) ∙ drop_all (n - i) (drop i kept) (omega (arith, ap length e)))
 
 -- a session that was not opened left the solver's count, or memory ran out
-pub left_count : (S : Parts) (ps : List PairParts) (old new : ℕ) (fault : Fault) → FaultCount S ps old new (fault ≡ NoMemory) → OrNoMemory (λ f. new ≡ old) fault
+pub left_count : (S : Parts) (ps : List PairParts) (old new : ℕ) (fault : Fault)
+    → FaultCount S ps old new (fault ≡ NoMemory) → OrNoMemory (λ f. new ≡ old) fault
 left_count S ps old new fault (inl same) = inr same
 left_count S ps old new fault (inr wanting) = inl wanting.0
 
@@ -129,35 +142,57 @@ abbrev pub IsWanting : LineAnswer → Type 0
 IsWanting a = a ≡ Err WantingMemory
 
 -- a line that stands for no edit, or `NoMemory`
-pub no_line : (line : List ℕ) (S : Parts) (count : ℕ) (fault : EditFault) → IsLineFault line fault → IsWanting (Err fault) ⊎ IsApplied S (words line) (Err fault) S count count
+pub no_line : (line : List ℕ) (S : Parts) (count : ℕ) (fault : EditFault) → IsLineFault line fault
+    → IsWanting (Err fault) ⊎ IsApplied S (words line) (Err fault) S count count
 no_line line S count EditForm h = inr (None, h, (refl, refl), refl)
 no_line line S count WantingMemory h = inl refl
 no_line line S count fault h = absurd h
 
-refused_line : (words : Line) (e : Edit) (S T : Parts) (ps : List PairParts) (before after : ℕ) (fault : EditFault) → ReadsAsEdit words e → IsRefused S e fault → T ≡ S → FaultCount (changed S e) ps before after (fault ≡ WantingMemory)
+refused_line : (words : Line) (e : Edit) (S T : Parts) (ps : List PairParts) (before after : ℕ) (fault : EditFault)
+    → ReadsAsEdit words e → IsRefused S e fault → T ≡ S
+    → FaultCount (changed S e) ps before after (fault ≡ WantingMemory)
     → IsWanting (Err fault) ⊎ IsApplied S words (Err fault) T before after
-refused_line ws e S T ps before after fault reads by_fault same (inl count) = inr (Some e, reads, (by_fault, same), count)
+refused_line ws e S T ps before after fault reads by_fault same (inl count) =
+    inr (Some e, reads, (by_fault, same), count)
 refused_line ws e S T ps before after fault reads by_fault same (inr wanting) = inl (ap err wanting.0)
 
 -- what a session returns for an edit of a line
-pub session_answers : (ws : Line) (e : Edit) (s t : Held) (before after : ℕ) (r : LineAnswer) → ReadsAsEdit ws e → IsSolved s → before ≤ after → OnOk r (IsEdited s.sections e t.sections) → OnOk r (IsSolved t)
-    → IfOk r (CountsNew s.pairs t.pairs) → IfOk r (λ d. after ≡ raised_by d.solved before) → IfErr r (IsApplyFault s.sections e) → OnErr r (t ≡ s) → IfErr r (λ f. FaultCount (changed s.sections e) s.pairs before after (f ≡ WantingMemory))
+pub session_answers : (ws : Line) (e : Edit) (s t : Held) (before after : ℕ) (r : LineAnswer) → ReadsAsEdit ws e
+    → IsSolved s → before ≤ after → OnOk r (IsEdited s.sections e t.sections) → OnOk r (IsSolved t)
+    → IfOk r (CountsNew s.pairs t.pairs) → IfOk r (λ d. after ≡ raised_by d.solved before)
+    → IfErr r (IsApplyFault s.sections e) → OnErr r (t ≡ s)
+    → IfErr r (λ f. FaultCount (changed s.sections e) s.pairs before after (f ≡ WantingMemory))
     → IsWanting r ⊎ IsApplied s.sections ws r t.sections before after
 session_answers ws e s t before after (Ok d) reads was later edited solved counts raised fault same count =
-    inr (Some e, reads, (edited, record { before = s.pairs; pairs_before = was.pairs; after = t.pairs; pairs_after = solved.pairs; counts = counts }), counted_raised d.solved before after raised later)
-session_answers ws e s t before after (Err f) reads was later edited solved counts raised (inl memory) same count = inl (ap err memory)
+    inr (
+      Some e,
+      reads,
+      (
+        edited,
+        record
+            { before = s.pairs; pairs_before = was.pairs; after = t.pairs; pairs_after = solved.pairs; counts = counts },
+      ),
+      counted_raised d.solved before after raised later,
+    )
+session_answers ws e s t before after (Err f) reads was later edited solved counts raised (inl memory) same count =
+    inl (ap err memory)
 session_answers ws e s t before after (Err f) reads was later edited solved counts raised (inr by_fault) same count =
-    refused_line ws e s.sections t.sections s.pairs before after f reads by_fault (ap (λ (h : Held). h.sections) same) count
+    refused_line ws e s.sections t.sections s.pairs before after f reads by_fault (ap (λ (h : Held). h.sections) same)
+    count
 
 -- a line is answered once its answer is written, since `NoMemory` has no words
-pub answer_written : {U E : Type 0} (S T : Parts) (line : Line) (number : ℕ) (old new : List ℕ) (before after : ℕ) (a : LineAnswer) (r : Result U E) → IsWanting a ⊎ IsApplied S line a T before after
-    → OnOk r (new ≡ old ++ answer_text number a) → OnOk r (IsWanting a → ⊥) → OnOk r (HasAnswered S line number old new T before after)
+pub answer_written : {U E : Type 0} (S T : Parts) (line : Line) (number : ℕ) (old new : List ℕ) (before after : ℕ)
+    (a : LineAnswer) (r : Result U E) → IsWanting a ⊎ IsApplied S line a T before after
+    → OnOk r (new ≡ old ++ answer_text number a) → OnOk r (IsWanting a → ⊥)
+    → OnOk r (HasAnswered S line number old new T before after)
 answer_written S T line number old new before after a (Ok u) (inl memory) text is_told = absurd (is_told memory)
-answer_written S T line number old new before after a (Ok u) (inr is) text is_told = record { answer = a; applied = is; text = text }
+answer_written S T line number old new before after a (Ok u) (inr is) text is_told =
+    record { answer = a; applied = is; text = text }
 answer_written S T line number old new before after a (Err f) is text is_told = tt
 
 -- the whole text, piece by piece
-pub text_is : (format : Surface → List ℕ) (answers : List LineAnswer) (b : Built) (count : ℕ) (t u x : List ℕ) → t ≡ answers_text 1 answers → count ≡ length answers → u ≡ t ++ (codes "EDITS " ++ (decimal count ++ codes "\n"))
+pub text_is : (format : Surface → List ℕ) (answers : List LineAnswer) (b : Built) (count : ℕ) (t u x : List ℕ)
+    → t ≡ answers_text 1 answers → count ≡ length answers → u ≡ t ++ (codes "EDITS " ++ (decimal count ++ codes "\n"))
     → x ≡ u ++ format (surface_of b.mesh) → x ≡ edits_text format answers b
 text_is format answers b count t u x first number eu ex =
     let last = format (surface_of b.mesh) in
@@ -165,7 +200,8 @@ text_is format answers b count t u x first number eu ex =
     ex
     ∙ ap (λ (s : List ℕ). s ++ last) (eu ∙ ap₂ (λ (s : List ℕ) (n : ℕ). s ++ total n) first number)
     ∙ append_assoc (answers_text 1 answers) (total (length answers)) last
-    ∙ ap (λ (s : List ℕ). answers_text 1 answers ++ (codes "EDITS " ++ s)) (append_assoc (decimal (length answers)) (codes "\n") last)
+    ∙ ap (λ (s : List ℕ). answers_text 1 answers ++ (codes "EDITS " ++ s))
+    (append_assoc (decimal (length answers)) (codes "\n") last)
 
 -- a tail has no line after its first 1,000 lines
 none_behind : (kept : List Kept) → None ≡ first_number kept → length kept ≡ 0
@@ -176,7 +212,9 @@ pub few_lines : (tail : List Kept) → None ≡ first_number (drop MAX_EDITS tai
 few_lines tail e = let none = none_behind (drop MAX_EDITS tail) e in omega (arith, none, length-drop MAX_EDITS tail)
 
 -- too many lines are refused, if the sections have pairs
-pub many_refused : (format : Surface → List ℕ) (S : Parts) (tail : List Kept) (ps : List PairParts) (n count : ℕ) → ArePairs S ps → Some n ≡ first_number (drop MAX_EDITS tail) → Replies (edit_sections format tail S) count count (Err (Limit Edits n))
+pub many_refused : (format : Surface → List ℕ) (S : Parts) (tail : List Kept) (ps : List PairParts) (n count : ℕ)
+    → ArePairs S ps → Some n ≡ first_number (drop MAX_EDITS tail)
+    → Replies (edit_sections format tail S) count count (Err (Limit Edits n))
 many_refused format S tail ps n count are e = record {
   text = tt;
   fault = inr (goes_on ps (refused (Limit Edits n)) are (fails (Limit Edits n) (n, sym e, refl)), refl);
@@ -184,8 +222,11 @@ many_refused format S tail ps n count are e = record {
 }
 
 -- the text of the edits is the reply; the pairs of the sections were counted, and then those of the edits
-pub edits_told : (format : Surface → List ℕ) (S : Parts) (tail : List Kept) (ps : List PairParts) (before middle after : ℕ) (v : Vec ℕ Global) → ArePairs S ps → length tail ≤ MAX_EDITS → middle ≡ raised_by (length ps) before → before ≤ middle → middle ≤ after
-    → IsTextOfEdits format S (lines_of tail) v.items middle after → Replies (edit_sections format tail S) before after (Ok v)
+pub edits_told : (format : Surface → List ℕ) (S : Parts) (tail : List Kept) (ps : List PairParts)
+    (before middle after : ℕ) (v : Vec ℕ Global) → ArePairs S ps → length tail ≤ MAX_EDITS
+    → middle ≡ raised_by (length ps) before → before ≤ middle → middle ≤ after
+    → IsTextOfEdits format S (lines_of tail) v.items middle after
+    → Replies (edit_sections format tail S) before after (Ok v)
 edits_told format S tail ps before middle after v are few raised later still is =
     let answers = is.editing.answers in
     let n = length ps + sum_by solved_for answers in
@@ -193,8 +234,11 @@ edits_told format S tail ps before middle after v are few raised later still is 
     record {
       text = (
         n,
-        goes_on ps reply are (goes_on (lines_of tail) reply (few, refl) (goes_on is.editing reply is.is_editing (goes_on is.built reply is.surface (ap (λ (t : List ℕ). told t n) is.text)))),
-        counted_twice (length ps) (sum_by solved_for answers) before middle after (counted_raised (length ps) before middle raised later) is.raised,
+        goes_on ps reply are (goes_on (lines_of tail) reply (few, refl)
+            (goes_on is.editing reply is.is_editing
+            (goes_on is.built reply is.surface (ap (λ (t : List ℕ). told t n) is.text)))),
+        counted_twice (length ps) (sum_by solved_for answers) before middle after
+            (counted_raised (length ps) before middle raised later) is.raised,
       );
       fault = tt;
       later = omega (arith, later, still);

@@ -27,29 +27,43 @@ use Rattle.surface_core.proofs.SectionFacts.{same_counts}
 use Rattle.surface_core.proofs.Totals.{pairs_within}
 
 -- ---- the objects of the code are those of the text
-same_parts : (F : FileParts) (o : Object) → o.sections.cost ≡ F.cost → o.sections.rule ≡ F.rule → o.sections ≡ alone F (object_parts o)
+same_parts : (F : FileParts) (o : Object) → o.sections.cost ≡ F.cost → o.sections.rule ≡ F.rule
+    → o.sections ≡ alone F (object_parts o)
 same_parts F o c r = ap₂ under c r
   where
     under : CostParts → PairRule → Parts
     under cost rule = record { cost = cost; rule = rule; sections = o.sections.sections; links = o.sections.links }
 
-held_parts : (F : FileParts) (items : List Object) → AreUnder F.cost F.rule items → sections_in items ≡ map (alone F) (map object_parts items)
+held_parts : (F : FileParts) (items : List Object) → AreUnder F.cost F.rule items
+    → sections_in items ≡ map (alone F) (map object_parts items)
 held_parts F [] h = refl
-held_parts F (o ∷ items) h = ap₂ (λ (S : Parts) (more : List Parts). S ∷ more) (same_parts F o h.0.0 h.0.1) (held_parts F items h.1)
+held_parts F (o ∷ items) h = ap₂ (λ (S : Parts) (more : List Parts). S ∷ more) (same_parts F o h.0.0 h.0.1)
+    (held_parts F items h.1)
 
-pub objects_are : (F : FileParts) (items : List Object) → map object_parts items ≡ F.objects → AreUnder F.cost F.rule items → sections_in items ≡ objects_in F
+pub objects_are : (F : FileParts) (items : List Object) → map object_parts items ≡ F.objects
+    → AreUnder F.cost F.rule items → sections_in items ≡ objects_in F
 objects_are F items e h = held_parts F items h ∙ ap (map (alone F)) e
 
-pub held_pairs : (F : FileParts) (items : List Object) (pss : List (List PairParts)) → map object_parts items ≡ F.objects → AreUnder F.cost F.rule items → AreAllPairs F pss → AllZip ArePairs (sections_in items) pss
-held_pairs F items pss e h pairs = subst (λ (objects : List Parts). AllZip ArePairs objects pss) (sym (objects_are F items e h)) pairs
+pub held_pairs : (F : FileParts) (items : List Object) (pss : List (List PairParts))
+    → map object_parts items ≡ F.objects → AreUnder F.cost F.rule items → AreAllPairs F pss
+    → AllZip ArePairs (sections_in items) pss
+held_pairs F items pss e h pairs =
+    subst (λ (objects : List Parts). AllZip ArePairs objects pss) (sym (objects_are F items e h)) pairs
 
 -- ---- vertices and contours
-sum_over : (g : SectionParts → ℕ) (F : FileParts) (os : List ObjectParts) → sum_by (λ (S : Parts). sum_by g S.sections) (map (alone F) os) ≡ sum_by g (all_sections os)
+sum_over : (g : SectionParts → ℕ) (F : FileParts) (os : List ObjectParts)
+    → sum_by (λ (S : Parts). sum_by g S.sections) (map (alone F) os) ≡ sum_by g (all_sections os)
 sum_over g F [] = refl
 sum_over g F (o ∷ os) =
-    omega (arith, sum_over g F os, sum_by-cons (λ (S : Parts). sum_by g S.sections) (alone F o) (map (alone F) os), sum_by-append g o.sections (all_sections os))
+    omega (
+      arith,
+      sum_over g F os,
+      sum_by-cons (λ (S : Parts). sum_by g S.sections) (alone F o) (map (alone F) os),
+      sum_by-append g o.sections (all_sections os),
+    )
 
-points_asked : (z : ℤ) (cs : List ContourParts) → AllByRecursion IsCountedContour cs → sum_by length (map (λ c. map (spot_point z) c.points) cs) ≡ sum_by asked (map (λ c. c.count) cs)
+points_asked : (z : ℤ) (cs : List ContourParts) → AllByRecursion IsCountedContour cs
+    → sum_by length (map (λ c. map (spot_point z) c.points) cs) ≡ sum_by asked (map (λ c. c.count) cs)
 points_asked z [] h = refl
 points_asked z (c ∷ cs) h =
     omega (
@@ -61,7 +75,8 @@ points_asked z (c ∷ cs) h =
       sum_by-cons asked c.count (map (λ (c : ContourParts). c.count) cs),
     )
 
-sections_asked : (ss : List SectionParts) → AllByRecursion IsCountedContour (contours_of ss) → sum_by vertices_in ss ≡ sum_by asked (counts ss)
+sections_asked : (ss : List SectionParts) → AllByRecursion IsCountedContour (contours_of ss)
+    → sum_by vertices_in ss ≡ sum_by asked (counts ss)
 sections_asked [] h = refl
 sections_asked (s ∷ ss) h =
     let count : ContourParts → ℤ = λ c. c.count in
@@ -75,7 +90,8 @@ sections_asked (s ∷ ss) h =
     )
 
 -- one object of version 1, or as many as have names
-objects_few : (v : Version) (os : List ObjectParts) → AreObjects v os → length (told_names v os) ≤ MAX_OBJECTS → length os ≤ MAX_OBJECTS
+objects_few : (v : Version) (os : List ObjectParts) → AreObjects v os → length (told_names v os) ≤ MAX_OBJECTS
+    → length os ≤ MAX_OBJECTS
 objects_few One os h k = omega (arith, ap length h.1)
 objects_few Two os h k = omega (arith, k, length-map os (λ (o : ObjectParts). o.name))
 
@@ -103,18 +119,31 @@ few_objects F a =
     ) in
     record {
       some = omega (arith, some, length-map os (alone F));
-      objects = omega (arith, length-map os (alone F), objects_few F.version os a.is_file.objects a.lawful.1.1.1.1.1.1.1.1.1.0);
+      objects = omega (
+        arith,
+        length-map os (alone F),
+        objects_few F.version os a.is_file.objects a.lawful.1.1.1.1.1.1.1.1.1.0,
+      );
       vertices = omega (arith, sum_over vertices_in F os, sections_asked all a.is_file.contours, limits.0);
       contours = contours;
     }
 
 -- ---- pairs
-pairs_numbered : (objects : List Parts) (pss : List (List PairParts)) → AllZip ArePairs objects pss → length (numbered pss) ≤ sum_by object_contours objects
+pairs_numbered : (objects : List Parts) (pss : List (List PairParts)) → AllZip ArePairs objects pss
+    → length (numbered pss) ≤ sum_by object_contours objects
 pairs_numbered [] [] h = omega arith
 pairs_numbered [] (ps ∷ pss) h = absurd h
 pairs_numbered (S ∷ objects) [] h = absurd h
 pairs_numbered (S ∷ objects) (ps ∷ pss) h =
-    omega (arith, pairs_numbered objects pss h.1, pairs_within S ps h.0, same_counts S.sections, length-append ps (numbered pss), sum_by-cons object_contours S objects)
+    omega (
+      arith,
+      pairs_numbered objects pss h.1,
+      pairs_within S ps h.0,
+      same_counts S.sections,
+      length-append ps (numbered pss),
+      sum_by-cons object_contours S objects,
+    )
 
-pub few_pairs_in : (F : FileParts) (pss : List (List PairParts)) → IsAcceptedFile F → AllZip ArePairs (objects_in F) pss → length (numbered pss) ≤ MAX_PAIRS
+pub few_pairs_in : (F : FileParts) (pss : List (List PairParts)) → IsAcceptedFile F → AllZip ArePairs (objects_in F) pss
+    → length (numbered pss) ≤ MAX_PAIRS
 few_pairs_in F pss a h = omega (arith, pairs_numbered (objects_in F) pss h, (few_objects F a).contours)

@@ -24,30 +24,38 @@ use Rattle.section_pairs.proofs.PairLaws.{one_pairs}
 use Rattle.surface_core.proofs.SurfaceLaws.{one_surface}
 
 -- ---- pairs and faults
-pub one_each : {A B : Type 0} (R : A → B → Type 0) → ((x : A) (y z : B) → R x y → R x z → y ≡ z) → (xs : List A) (ys zs : List B) → AllZip R xs ys → AllZip R xs zs → ys ≡ zs
+pub one_each : {A B : Type 0} (R : A → B → Type 0) → ((x : A) (y z : B) → R x y → R x z → y ≡ z)
+    → (xs : List A) (ys zs : List B) → AllZip R xs ys → AllZip R xs zs → ys ≡ zs
 one_each R one [] [] [] h k = refl
 one_each R one [] (y ∷ ys) zs h k = absurd h
 one_each R one [] [] (z ∷ zs) h k = absurd k
 one_each R one (x ∷ xs) [] zs h k = absurd h
 one_each R one (x ∷ xs) (y ∷ ys) [] h k = absurd k
-one_each {B = B} R one (x ∷ xs) (y ∷ ys) (z ∷ zs) h k = ap₂ (λ (u : B) (us : List B). u ∷ us) (one x y z h.0 k.0) (one_each R one xs ys zs h.1 k.1)
+one_each {B = B} R one (x ∷ xs) (y ∷ ys) (z ∷ zs) h k =
+    ap₂ (λ (u : B) (us : List B). u ∷ us) (one x y z h.0 k.0) (one_each R one xs ys zs h.1 k.1)
 
-pub one_pair_lists : (F : FileParts) (pss qss : List (List PairParts)) → AreAllPairs F pss → AreAllPairs F qss → pss ≡ qss
+pub one_pair_lists : (F : FileParts) (pss qss : List (List PairParts)) → AreAllPairs F pss → AreAllPairs F qss
+    → pss ≡ qss
 one_pair_lists F pss qss h k = one_each ArePairs one_pairs (objects_in F) pss qss h k
 
 pairs_exclude : Excludes HasPairs IsFound
 pairs_exclude S fault has found = paired_or_found S has.0 fault has.1 found
 
-pub objects_paired_or_found : (F : FileParts) (pss : List (List PairParts)) (fault : Fault) → AreAllPairs F pss → IsFoundIn F fault → ⊥
-objects_paired_or_found F pss fault h found = first_not_all HasPairs IsFound pairs_exclude (objects_in F) fault (good_objects (objects_in F) pss h) found
+pub objects_paired_or_found : (F : FileParts) (pss : List (List PairParts)) (fault : Fault) → AreAllPairs F pss
+    → IsFoundIn F fault → ⊥
+objects_paired_or_found F pss fault h found =
+    first_not_all HasPairs IsFound pairs_exclude (objects_in F) fault (good_objects (objects_in F) pss h) found
 
 pub one_found_in : (F : FileParts) (f g : Fault) → IsFoundIn F f → IsFoundIn F g → f ≡ g
 one_found_in F f g h k = first_one HasPairs IsFound pairs_exclude one_found (objects_in F) f g h k
 
 -- how many pairs go to the solver, for any lists of pairs of the objects
-pub handed_over_in : (F : FileParts) (pss qss : List (List PairParts)) (strips : List (Bor Strip)) → AreAllPairs F pss → AreAllPairs F qss → referents strips ≡ strips_in (numbered qss) → length (numbered pss) ≡ length strips
+pub handed_over_in : (F : FileParts) (pss qss : List (List PairParts)) (strips : List (Bor Strip)) → AreAllPairs F pss
+    → AreAllPairs F qss → referents strips ≡ strips_in (numbered qss) → length (numbered pss) ≡ length strips
 handed_over_in F pss qss strips a b s =
-    ap (λ (rss : List (List PairParts)). length (numbered rss)) (one_pair_lists F pss qss a b) ∙ sym (length-map (numbered qss) (λ (p : PairParts). p.strip)) ∙ sym (count_referents strips (strips_in (numbered qss)) s)
+    ap (λ (rss : List (List PairParts)). length (numbered rss)) (one_pair_lists F pss qss a b)
+    ∙ sym (length-map (numbered qss) (λ (p : PairParts). p.strip))
+    ∙ sym (count_referents strips (strips_in (numbered qss)) s)
 
 -- ---- surfaces
 -- equal meshes, and equal counts
@@ -60,10 +68,12 @@ record AllAlike (bs cs : List Built) : Type 0 where
   cost : signed_sum (λ (x : Built). x.cost) bs ≡ signed_sum (λ (x : Built). x.cost) cs
   folded : sum_by (λ (x : Built). x.folded) bs ≡ sum_by (λ (x : Built). x.folded) cs
 
-sum_alike : (f : Built → ℕ) (b c : Built) (bs cs : List Built) → f b ≡ f c → sum_by f bs ≡ sum_by f cs → sum_by f (b ∷ bs) ≡ sum_by f (c ∷ cs)
+sum_alike : (f : Built → ℕ) (b c : Built) (bs cs : List Built) → f b ≡ f c → sum_by f bs ≡ sum_by f cs
+    → sum_by f (b ∷ bs) ≡ sum_by f (c ∷ cs)
 sum_alike f b c bs cs e h = sum_by-cons f b bs ∙ ap₂ (λ (m n : ℕ). m + n) e h ∙ sym (sum_by-cons f c cs)
 
-all_alike : (Is : Parts → Built → Type 0) → ((S : Parts) (b c : Built) → Is S b → Is S c → AreAlike b c) → (objects : List Parts) (bs cs : List Built) → AllZip Is objects bs → AllZip Is objects cs → AllAlike bs cs
+all_alike : (Is : Parts → Built → Type 0) → ((S : Parts) (b c : Built) → Is S b → Is S c → AreAlike b c)
+    → (objects : List Parts) (bs cs : List Built) → AllZip Is objects bs → AllZip Is objects cs → AllAlike bs cs
 all_alike Is one [] [] [] h k = record { meshes = refl; pairs = refl; cost = refl; folded = refl }
 all_alike Is one [] (b ∷ bs) cs h k = absurd h
 all_alike Is one [] [] (c ∷ cs) h k = absurd k
@@ -80,7 +90,8 @@ all_alike Is one (S ∷ objects) (b ∷ bs) (c ∷ cs) h k =
     }
 
 -- the surfaces of objects are determined if each is
-pub one_built : (Is : Parts → Built → Type 0) → ((S : Parts) (b c : Built) → Is S b → Is S c → AreAlike b c) → (F : FileParts) (b c : Built) → AreBuiltBy Is F b → AreBuiltBy Is F c → AreAlike b c
+pub one_built : (Is : Parts → Built → Type 0) → ((S : Parts) (b c : Built) → Is S b → Is S c → AreAlike b c)
+    → (F : FileParts) (b c : Built) → AreBuiltBy Is F b → AreBuiltBy Is F c → AreAlike b c
 one_built Is one F b c h k =
     let all = all_alike Is one (objects_in F) h.each k.each h.built k.built in (
       h.whole.mesh ∙ ap joined all.meshes ∙ sym k.whole.mesh,

@@ -23,13 +23,26 @@ same_parts (part ∷ parts) = ap₂ (λ (x : List (List ℕ)) xs. x ∷ xs) (sam
 
 one_joined : (s : Surface) → joined (s ∷ []) ≡ s
 one_joined s =
-    ap₂ (λ (vs : List Point) ps. record { vertices = vs; parts = ps }) (append-nil s.vertices) (append-nil (raised 0 s.parts) ∙ same_parts s.parts)
+    ap₂ (λ (vs : List Point) ps. record { vertices = vs; parts = ps }) (append-nil s.vertices)
+    (append-nil (raised 0 s.parts) ∙ same_parts s.parts)
 
 pub one_built : (b : Built) → IsJoined (b ∷ []) b
-one_built b = record { mesh = sym (one_joined (surface_of b.mesh)); pairs = omega arith; cost = omega (arith, ints); folded = omega arith }
+one_built b = record {
+  mesh = sym (one_joined (surface_of b.mesh));
+  pairs = omega arith;
+  cost = omega (arith, ints);
+  folded = omega arith;
+}
 
 -- the last item of a list of one is all of it
-pub only_item : {X : Type 0} (xs rest : List X) (o : Option X) (x : X) → xs ≡ rest ++ option_to_list o → o ≡ Some x → length xs ≡ 1 → xs ≡ x ∷ []
+pub only_item : {X : Type 0} (xs rest : List X) (o : Option X) (x : X) → xs ≡ rest ++ option_to_list o → o ≡ Some x
+    → length xs ≡ 1 → xs ≡ x ∷ []
 only_item xs [] o x e is n = e ∙ ap option_to_list is
 only_item xs (y ∷ rest) o x e is n =
-    absurd (omega (arith, n, ap length e, length-append rest (option_to_list o), ap (λ z. length (option_to_list z)) is))
+    absurd (omega (
+      arith,
+      n,
+      ap length e,
+      length-append rest (option_to_list o),
+      ap (λ z. length (option_to_list z)) is,
+    ))

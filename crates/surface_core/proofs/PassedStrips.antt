@@ -12,8 +12,10 @@ one : (b : Bool) (p : PairParts) → strips_in (cond b (p ∷ []) []) ≡ cond b
 one true p = refl
 one false p = refl
 
-pub passed_more : (test : PairParts → Bool) (ps : List GapPair) (i : ℕ) (p : GapPair) → i < length ps → p ≡ get_or ps i p
-    → strips_in (filter test (map pair_parts (take (i + 1) ps))) ≡ strips_in (filter test (map pair_parts (take i ps))) ++ cond (test (pair_parts p)) (p.pair ∷ []) []
+pub passed_more : (test : PairParts → Bool) (ps : List GapPair) (i : ℕ) (p : GapPair) → i < length ps
+    → p ≡ get_or ps i p
+    → strips_in (filter test (map pair_parts (take (i + 1) ps))) ≡ strips_in (filter test (map pair_parts (take i ps)))
+    ++ cond (test (pair_parts p)) (p.pair ∷ []) []
 passed_more test ps i p l e =
     let before : List PairParts = map pair_parts (take i ps) in
     ap (λ (xs : List PairParts). strips_in (filter test xs)) (front_more pair_parts ps i p l e)

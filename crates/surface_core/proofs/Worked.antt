@@ -33,35 +33,50 @@ round_two = solution 3300 (H ∷ V ∷ H ∷ H ∷ V ∷ H ∷ H ∷ H ∷ V ∷
 
 -- which contours are in pairs of the gaps above and below a section
 abbrev pair_in : ℕ → List ℕ → List ℕ → PairParts
-pair_in gap below above = record { strip = record { low = []; low_ids = []; high = []; high_ids = []; cost = Span }; gap = gap; below = below; above = above }
+pair_in gap below above = record {
+  strip = record { low = []; low_ids = []; high = []; high_ids = []; cost = Span };
+  gap = gap;
+  below = below;
+  above = above;
+}
 
 abbrev gaps : List PairParts
 gaps = pair_in 0 (0 ∷ []) (0 ∷ 2 ∷ []) ∷ pair_in 0 (1 ∷ []) (3 ∷ []) ∷ pair_in 1 (2 ∷ []) (1 ∷ []) ∷ []
 
-joined : (joined_on Above gaps 0 ≡ 0 ∷ 1 ∷ []) × (joined_on Above gaps 1 ≡ 2 ∷ []) × (joined_on Below gaps 0 ≡ []) × (joined_on Below gaps 1 ≡ 0 ∷ 2 ∷ 3 ∷ []) × (joined_on Below gaps 2 ≡ 1 ∷ [])
+joined : (joined_on Above gaps 0 ≡ 0 ∷ 1 ∷ []) × (joined_on Above gaps 1 ≡ 2 ∷ []) × (joined_on Below gaps 0 ≡ [])
+    × (joined_on Below gaps 1 ≡ 0 ∷ 2 ∷ 3 ∷ []) × (joined_on Below gaps 2 ≡ 1 ∷ [])
 joined = (refl, refl, refl, refl, refl)
 
 abbrev ring : ℕ → RingView
 ring id = record { points = []; ids = id ∷ [] }
 
-left : (others (ring 5 ∷ ring 6 ∷ ring 7 ∷ []) (1 ∷ []) ≡ ring 5 ∷ ring 7 ∷ []) × (unmarked (ring 5 ∷ ring 6 ∷ []) (true ∷ false ∷ []) ≡ ring 6 ∷ [])
+left : (others (ring 5 ∷ ring 6 ∷ ring 7 ∷ []) (1 ∷ []) ≡ ring 5 ∷ ring 7 ∷ [])
+    × (unmarked (ring 5 ∷ ring 6 ∷ []) (true ∷ false ∷ []) ≡ ring 6 ∷ [])
 left = (refl, refl)
 
 -- a bottom cap, a strip and a top cap
-squares_triangles : surface_triangles squares (pairs_from squares 0 straight) (by_turns ∷ []) ≡ (3 ∷ 1 ∷ 0 ∷ []) ∷ (1 ∷ 3 ∷ 2 ∷ []) ∷ (0 ∷ 1 ∷ 4 ∷ []) ∷ (5 ∷ 4 ∷ 1 ∷ []) ∷ (1 ∷ 2 ∷ 5 ∷ []) ∷ (6 ∷ 5 ∷ 2 ∷ []) ∷ (2 ∷ 3 ∷ 6 ∷ []) ∷ (7 ∷ 6 ∷ 3 ∷ []) ∷ (3 ∷ 0 ∷ 7 ∷ []) ∷ (4 ∷ 7 ∷ 0 ∷ []) ∷ (7 ∷ 4 ∷ 5 ∷ []) ∷ (5 ∷ 6 ∷ 7 ∷ []) ∷ []
+squares_triangles : surface_triangles squares (pairs_from squares 0 straight) (by_turns ∷ []) ≡ (3 ∷ 1 ∷ 0 ∷ [])
+    ∷ (1 ∷ 3 ∷ 2 ∷ []) ∷ (0 ∷ 1 ∷ 4 ∷ []) ∷ (5 ∷ 4 ∷ 1 ∷ []) ∷ (1 ∷ 2 ∷ 5 ∷ []) ∷ (6 ∷ 5 ∷ 2 ∷ []) ∷ (2 ∷ 3 ∷ 6 ∷ [])
+    ∷ (7 ∷ 6 ∷ 3 ∷ []) ∷ (3 ∷ 0 ∷ 7 ∷ []) ∷ (4 ∷ 7 ∷ 0 ∷ []) ∷ (7 ∷ 4 ∷ 5 ∷ []) ∷ (5 ∷ 6 ∷ 7 ∷ []) ∷ []
 unfolding oriented ring_from depth is_inside least_bridge distance_square square is_ear places_by
 squares_triangles = refl
 
 -- both caps of each square
-apart_triangles : surface_triangles empty_between [] [] ≡ (3 ∷ 1 ∷ 0 ∷ []) ∷ (1 ∷ 3 ∷ 2 ∷ []) ∷ (3 ∷ 0 ∷ 1 ∷ []) ∷ (1 ∷ 2 ∷ 3 ∷ []) ∷ (7 ∷ 5 ∷ 4 ∷ []) ∷ (5 ∷ 7 ∷ 6 ∷ []) ∷ (7 ∷ 4 ∷ 5 ∷ []) ∷ (5 ∷ 6 ∷ 7 ∷ []) ∷ []
+apart_triangles : surface_triangles empty_between [] [] ≡ (3 ∷ 1 ∷ 0 ∷ []) ∷ (1 ∷ 3 ∷ 2 ∷ []) ∷ (3 ∷ 0 ∷ 1 ∷ [])
+    ∷ (1 ∷ 2 ∷ 3 ∷ []) ∷ (7 ∷ 5 ∷ 4 ∷ []) ∷ (5 ∷ 7 ∷ 6 ∷ []) ∷ (7 ∷ 4 ∷ 5 ∷ []) ∷ (5 ∷ 6 ∷ 7 ∷ []) ∷ []
 unfolding oriented ring_from depth is_inside is_ear places_by
 apart_triangles = refl
 
 -- one contour under two: their bridge is passed in both directions
-branching_triangles : surface_triangles branching branch (round_two ∷ []) ≡ (3 ∷ 1 ∷ 0 ∷ []) ∷ (1 ∷ 3 ∷ 2 ∷ []) ∷ (5 ∷ 4 ∷ 0 ∷ []) ∷ (0 ∷ 1 ∷ 5 ∷ []) ∷ (8 ∷ 5 ∷ 1 ∷ []) ∷ (9 ∷ 8 ∷ 1 ∷ []) ∷ (1 ∷ 2 ∷ 9 ∷ []) ∷ (10 ∷ 9 ∷ 2 ∷ []) ∷ (11 ∷ 10 ∷ 2 ∷ []) ∷ (8 ∷ 11 ∷ 2 ∷ []) ∷ (2 ∷ 3 ∷ 8 ∷ []) ∷ (5 ∷ 8 ∷ 3 ∷ []) ∷ (6 ∷ 5 ∷ 3 ∷ []) ∷ (7 ∷ 6 ∷ 3 ∷ []) ∷ (3 ∷ 0 ∷ 7 ∷ []) ∷ (4 ∷ 7 ∷ 0 ∷ []) ∷ (7 ∷ 4 ∷ 5 ∷ []) ∷ (5 ∷ 6 ∷ 7 ∷ []) ∷ (11 ∷ 8 ∷ 9 ∷ []) ∷ (9 ∷ 10 ∷ 11 ∷ []) ∷ []
+branching_triangles : surface_triangles branching branch (round_two ∷ []) ≡ (3 ∷ 1 ∷ 0 ∷ []) ∷ (1 ∷ 3 ∷ 2 ∷ [])
+    ∷ (5 ∷ 4 ∷ 0 ∷ []) ∷ (0 ∷ 1 ∷ 5 ∷ []) ∷ (8 ∷ 5 ∷ 1 ∷ []) ∷ (9 ∷ 8 ∷ 1 ∷ []) ∷ (1 ∷ 2 ∷ 9 ∷ []) ∷ (10 ∷ 9 ∷ 2 ∷ [])
+    ∷ (11 ∷ 10 ∷ 2 ∷ []) ∷ (8 ∷ 11 ∷ 2 ∷ []) ∷ (2 ∷ 3 ∷ 8 ∷ []) ∷ (5 ∷ 8 ∷ 3 ∷ []) ∷ (6 ∷ 5 ∷ 3 ∷ []) ∷ (7 ∷ 6 ∷ 3 ∷ [])
+    ∷ (3 ∷ 0 ∷ 7 ∷ []) ∷ (4 ∷ 7 ∷ 0 ∷ []) ∷ (7 ∷ 4 ∷ 5 ∷ []) ∷ (5 ∷ 6 ∷ 7 ∷ []) ∷ (11 ∷ 8 ∷ 9 ∷ []) ∷ (9 ∷ 10 ∷ 11 ∷ [])
+    ∷ []
 unfolding oriented ring_from depth is_inside least_bridge distance_square square is_ear places_by
 branching_triangles = refl
 
-counted : (surface_folded empty_between [] ≡ 0) × (length (strips_in gaps) ≡ 3) × (map (λ s. length (points_in s)) branching.sections ≡ 4 ∷ 8 ∷ [])
+counted : (surface_folded empty_between [] ≡ 0) × (length (strips_in gaps) ≡ 3)
+    × (map (λ s. length (points_in s)) branching.sections ≡ 4 ∷ 8 ∷ [])
 unfolding oriented ring_from depth is_inside is_ear places_by
 counted = (refl, refl, refl)

@@ -11,4 +11,5 @@ digit_name d e = grind (arith, nat_tests)
 
 pub digits_name : (ds : List ℕ) → list_all is_digit ds ≡ true → list_all is_name_byte ds ≡ true
 digits_name [] e = refl
-digits_name (d ∷ ds) e = let p = and_parts (is_digit d) (list_all is_digit ds) e in and_from (is_name_byte d) (list_all is_name_byte ds) (digit_name d p.0) (digits_name ds p.1)
+digits_name (d ∷ ds) e = let p = and_parts (is_digit d) (list_all is_digit ds) e in
+    and_from (is_name_byte d) (list_all is_name_byte ds) (digit_name d p.0) (digits_name ds p.1)

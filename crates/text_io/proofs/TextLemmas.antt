@@ -32,7 +32,8 @@ fed-no b bs e = cond-false _ _ _ e
 fed-yes : (b : ℕ) (bs : List ℕ) → is_feed b ≡ true → fed_lines (b ∷ bs) ≡ [] ∷ fed_lines bs
 fed-yes b bs e = cond-true _ _ _ e
 
-fed_first : (b : ℕ) (bs : List ℕ) → fed_lines (b ∷ bs) ≡ before_first is_feed (b ∷ bs) ∷ fed_lines (after_first is_feed (b ∷ bs))
+fed_first : (b : ℕ) (bs : List ℕ) → fed_lines (b ∷ bs) ≡ before_first is_feed (b ∷ bs)
+    ∷ fed_lines (after_first is_feed (b ∷ bs))
 fed_first b [] =
     elim (cases_Bool (is_feed b)) [
       | inl e ↦ rw (fed-yes b [] e, before-yes is_feed b [] e, after-yes is_feed b [] e) refl
@@ -42,7 +43,8 @@ fed_first b (c ∷ cs) =
     let more = fed_first c cs in
     elim (cases_Bool (is_feed b)) [
       | inl e ↦ rw (fed-yes b (c ∷ cs) e, before-yes is_feed b (c ∷ cs) e, after-yes is_feed b (c ∷ cs) e) refl
-      | inr e ↦ rw (fed-no b (c ∷ cs) e, before-no is_feed b (c ∷ cs) e, after-no is_feed b (c ∷ cs) e) (ap (onto_first b) more)
+      | inr e ↦ rw (fed-no b (c ∷ cs) e, before-no is_feed b (c ∷ cs) e, after-no is_feed b (c ∷ cs) e)
+          (ap (onto_first b) more)
     ]
 
 -- a nonempty text is its first line and the lines of the text after it
@@ -69,7 +71,9 @@ without_return-front (b ∷ c ∷ bs) = ap (λ r. b ∷ r) (without_return-front
 slice-range-length : (text : List ℕ) (at n : ℕ) → slice_range text at (at + n) ≡ take n (drop at text)
 slice-range-length text at n = let e : at + n - at ≡ n = omega arith in rw e refl
 
-pub line_found : (text : List ℕ) (at n next : ℕ) (line : List ℕ) → at < length text → n ≡ position_or_len is_feed (drop at text) → line ≡ without_return (take n (drop at text)) → next ≡ min (length (drop at text)) (n + 1) → IsLineAt text at at (at + length line) (at + next)
+pub line_found : (text : List ℕ) (at n next : ℕ) (line : List ℕ) → at < length text
+    → n ≡ position_or_len is_feed (drop at text) → line ≡ without_return (take n (drop at text))
+    → next ≡ min (length (drop at text)) (n + 1) → IsLineAt text at at (at + length line) (at + next)
 line_found text at n next line inside n-is line-is next-is =
     let rest = drop at text in
     let rest-length : length rest ≡ length text - at = length-drop at text in
@@ -95,22 +99,27 @@ line_found text at n next line inside n-is line-is next-is =
       takes_bytes = (omega arith, omega arith);
       line = slice-is ∙ line-first;
       rest = after-is;
-      lines = lines_first rest (omega arith) ∙ ap (λ (l : List ℕ). l ∷ lines (after_line rest)) (sym (slice-is ∙ line-first)) ∙ ap (λ (r : List ℕ). slice_range text at (at + length line) ∷ lines r) (sym after-is);
+      lines = lines_first rest (omega arith)
+          ∙ ap (λ (l : List ℕ). l ∷ lines (after_line rest)) (sym (slice-is ∙ line-first))
+          ∙ ap (λ (r : List ℕ). slice_range text at (at + length line) ∷ lines r) (sym after-is);
     }
 
 -- `strip_suffix` of a carriage return; the line itself where it has none
 last-of : (b c : ℕ) (bs : List ℕ) → drop (length (b ∷ c ∷ bs) - 1) (b ∷ c ∷ bs) ≡ drop (length (c ∷ bs) - 1) (c ∷ bs)
 last-of b c bs = let e : length (b ∷ c ∷ bs) - 1 ≡ suc (length (c ∷ bs) - 1) = omega arith in rw e refl
 
-front-of : (b c : ℕ) (bs : List ℕ) → take (length (b ∷ c ∷ bs) - 1) (b ∷ c ∷ bs) ≡ b ∷ take (length (c ∷ bs) - 1) (c ∷ bs)
+front-of : (b c : ℕ) (bs : List ℕ)
+    → take (length (b ∷ c ∷ bs) - 1) (b ∷ c ∷ bs) ≡ b ∷ take (length (c ∷ bs) - 1) (c ∷ bs)
 front-of b c bs = let e : length (b ∷ c ∷ bs) - 1 ≡ suc (length (c ∷ bs) - 1) = omega arith in rw e refl
 
-return-stripped : (xs : List ℕ) → pointwise eqb (drop (length xs - 1) xs) (13 ∷ []) ≡ true → take (length xs - 1) xs ≡ without_return xs
+return-stripped : (xs : List ℕ) → pointwise eqb (drop (length xs - 1) xs) (13 ∷ []) ≡ true
+    → take (length xs - 1) xs ≡ without_return xs
 return-stripped [] h = refl
 return-stripped (b ∷ []) h =
     let e : eqb b 13 ≡ true = grind (arith, nat_tests) in rw (cond-true _ _ _ e) refl
 return-stripped (b ∷ c ∷ bs) h =
-    let g : pointwise eqb (drop (length (c ∷ bs) - 1) (c ∷ bs)) (13 ∷ []) ≡ true = ap (λ (l : List ℕ). pointwise eqb l (13 ∷ [])) (sym (last-of b c bs)) ∙ h in
+    let g : pointwise eqb (drop (length (c ∷ bs) - 1) (c ∷ bs)) (13 ∷ []) ≡ true =
+    ap (λ (l : List ℕ). pointwise eqb l (13 ∷ [])) (sym (last-of b c bs)) ∙ h in
     front-of b c bs ∙ ap (λ (r : List ℕ). b ∷ r) (return-stripped (c ∷ bs) g)
 
 return-kept : (xs : List ℕ) → pointwise eqb (drop (length xs - 1) xs) (13 ∷ []) ≡ false → xs ≡ without_return xs
@@ -118,19 +127,22 @@ return-kept [] h = refl
 return-kept (b ∷ []) h =
     let e : eqb b 13 ≡ false = grind (arith, nat_tests) in rw (cond-false _ _ _ e) refl
 return-kept (b ∷ c ∷ bs) h =
-    let g : pointwise eqb (drop (length (c ∷ bs) - 1) (c ∷ bs)) (13 ∷ []) ≡ false = ap (λ (l : List ℕ). pointwise eqb l (13 ∷ [])) (sym (last-of b c bs)) ∙ h in
+    let g : pointwise eqb (drop (length (c ∷ bs) - 1) (c ∷ bs)) (13 ∷ []) ≡ false =
+    ap (λ (l : List ℕ). pointwise eqb l (13 ∷ [])) (sym (last-of b c bs)) ∙ h in
     ap (λ (r : List ℕ). b ∷ r) (return-kept (c ∷ bs) g)
 
 -- `strip_suffix` of a carriage return; the line itself where it has none
 pub return_stripped : (xs : Bor (List ℕ)) (r : Option (Bor (List ℕ))) →
     MatchOption r (pointwise eqb (drop (length xs.now - 1) xs.now) (13 ∷ []) ≡ false)
-    (λ x. (pointwise eqb (drop (length xs.now - 1) xs.now) (13 ∷ []) ≡ true) × (x.now ≡ take (length xs.now - 1) xs.now) × (length x.now + 1 ≡ length xs.now)) →
+    (λ x. (pointwise eqb (drop (length xs.now - 1) xs.now) (13 ∷ []) ≡ true) × (x.now ≡ take (length xs.now - 1) xs.now)
+    × (length x.now + 1 ≡ length xs.now)) →
     (unwrap_or r xs).now ≡ without_return xs.now
 return_stripped xs None h = return-kept xs.now h
 return_stripped xs (Some x) h = h.1 ∙ return-stripped xs.now h.0
 
 -- what `position` returns
-pub position_some : (p : ℕ → Bool) (xs : List ℕ) (n : ℕ) → position p xs ≡ Some n → (n ≡ position_or_len p xs) × (n < length xs)
+pub position_some : (p : ℕ → Bool) (xs : List ℕ) (n : ℕ) → position p xs ≡ Some n → (n ≡ position_or_len p xs)
+    × (n < length xs)
 position_some p xs n h = (grind (arith, nat_tests), grind (arith, nat_tests))
 
 pub position_none : (p : ℕ → Bool) (xs : List ℕ) → position p xs ≡ None → position_or_len p xs ≡ length xs
@@ -153,7 +165,8 @@ only_blanks xs h k d inside =
 pub not_only_blanks : (xs : List ℕ) (n : ℕ) → position (λ b. not (is_blank b)) xs ≡ Some n → AllPass is_blank xs → ⊥
 not_only_blanks xs n h all =
     let found = position_some (λ b. not (is_blank b)) xs n h in
-    let here : is_blank (get_or xs (position_or_len (λ b. not (is_blank b)) xs) 0) ≡ false = not_not-false _ (prefix_len_stops (λ b. not (not (is_blank b))) xs 0 (omega arith)) in
+    let here : is_blank (get_or xs (position_or_len (λ b. not (is_blank b)) xs) 0) ≡ false =
+    not_not-false _ (prefix_len_stops (λ b. not (not (is_blank b))) xs 0 (omega arith)) in
     false≢true (sym here ∙ all _ 0 (omega arith))
 
 words-blank : (b : ℕ) (bs : List ℕ) → is_blank b ≡ true → words (b ∷ bs) ≡ words bs
@@ -162,10 +175,12 @@ words-blank b bs e = cond-true _ _ _ e
 words-last : (b : ℕ) (bs : List ℕ) → is_blank b ≡ false → word_ends bs ≡ true → words (b ∷ bs) ≡ (b ∷ []) ∷ words bs
 words-last b bs e l = cond-false _ _ _ e ∙ cond-true _ _ _ l
 
-words-more : (b : ℕ) (bs : List ℕ) → is_blank b ≡ false → word_ends bs ≡ false → words (b ∷ bs) ≡ onto_first b (words bs)
+words-more : (b : ℕ) (bs : List ℕ) → is_blank b ≡ false → word_ends bs ≡ false
+    → words (b ∷ bs) ≡ onto_first b (words bs)
 words-more b bs e l = cond-false _ _ _ e ∙ cond-false _ _ _ l
 
-skip-yes : (p : ℕ → Bool) (b : ℕ) (bs : List ℕ) → p b ≡ false → drop (position_or_len p (b ∷ bs)) (b ∷ bs) ≡ drop (position_or_len p bs) bs
+skip-yes : (p : ℕ → Bool) (b : ℕ) (bs : List ℕ) → p b ≡ false
+    → drop (position_or_len p (b ∷ bs)) (b ∷ bs) ≡ drop (position_or_len p bs) bs
 skip-yes p b bs e = grind (arith, common_steps, nat_tests)
 
 skip-no : (p : ℕ → Bool) (b : ℕ) (bs : List ℕ) → p b ≡ true → drop (position_or_len p (b ∷ bs)) (b ∷ bs) ≡ b ∷ bs
@@ -181,12 +196,20 @@ words_skip (b ∷ bs) =
     ]
 
 -- a word goes up to the next blank
-pub words_first : (b : ℕ) (bs : List ℕ) → is_blank b ≡ false → words (b ∷ bs) ≡ before_first is_blank (b ∷ bs) ∷ words (drop (position_or_len is_blank (b ∷ bs)) (b ∷ bs))
+pub words_first : (b : ℕ) (bs : List ℕ) → is_blank b ≡ false
+    → words (b ∷ bs) ≡ before_first is_blank (b ∷ bs) ∷ words (drop (position_or_len is_blank (b ∷ bs)) (b ∷ bs))
 words_first b [] e = rw (words-last b [] e refl, before-no is_blank b [] e, skip-yes is_blank b [] e) refl
 words_first b (c ∷ cs) e =
     elim (cases_Bool (is_blank c)) [
-      | inl f ↦ rw (words-last b (c ∷ cs) e f, before-no is_blank b (c ∷ cs) e, skip-yes is_blank b (c ∷ cs) e, before-yes is_blank c cs f, skip-no is_blank c cs f) refl
-      | inr f ↦ rw (words-more b (c ∷ cs) e f, before-no is_blank b (c ∷ cs) e, skip-yes is_blank b (c ∷ cs) e) (ap (onto_first b) (words_first c cs f))
+      | inl f ↦ rw (
+        words-last b (c ∷ cs) e f,
+        before-no is_blank b (c ∷ cs) e,
+        skip-yes is_blank b (c ∷ cs) e,
+        before-yes is_blank c cs f,
+        skip-no is_blank c cs f,
+      ) refl
+      | inr f ↦ rw (words-more b (c ∷ cs) e f, before-no is_blank b (c ∷ cs) e, skip-yes is_blank b (c ∷ cs) e)
+          (ap (onto_first b) (words_first c cs f))
     ]
 
 -- bytes of a word: none is a blank
@@ -194,44 +217,60 @@ abbrev pub AreSolid : List ℕ → Type 0
 AreSolid bs = AllByRecursion (λ (b : ℕ). is_blank b ≡ false) bs
 
 -- a word is followed by a blank or by the end of the line
-pub word_read : (w rest : List ℕ) → 0 < length w → AreSolid w → word_ends rest ≡ true → words (w ++ rest) ≡ w ∷ words rest
+pub word_read : (w rest : List ℕ) → 0 < length w → AreSolid w → word_ends rest ≡ true
+    → words (w ++ rest) ≡ w ∷ words rest
 word_read [] rest l s e = absurd (omega (arith, l))
 word_read (b ∷ []) rest l s e = words-last b rest s.0 e
-word_read (b ∷ d ∷ w) rest l s e = words-more b (d ∷ w ++ rest) s.0 s.1.0 ∙ ap (onto_first b) (word_read (d ∷ w) rest (omega arith) s.1 e)
+word_read (b ∷ d ∷ w) rest l s e = words-more b (d ∷ w ++ rest) s.0 s.1.0
+    ∙ ap (onto_first b) (word_read (d ∷ w) rest (omega arith) s.1 e)
 
 -- bytes before the first that passes do not pass
-blanks_before : (xs : List ℕ) (n : ℕ) → n ≡ position_or_len (λ b. not (is_blank b)) xs → n ≤ length xs → AllPass is_blank (take n xs)
+blanks_before : (xs : List ℕ) (n : ℕ) → n ≡ position_or_len (λ b. not (is_blank b)) xs → n ≤ length xs
+    → AllPass is_blank (take n xs)
 blanks_before xs n n-is short k d inside =
     let k-lt : k < n = omega (arith, length-take n xs) in
     subst (λ (b : ℕ). is_blank b ≡ true) (sym (get_or-take n xs k d k-lt))
     (not_not _ (prefix_len_passes (λ b. not (not (is_blank b))) xs k d (omega arith)))
 
 -- a word at the front of a nonempty part that does not begin with a blank
-word_at_front : (r : List ℕ) (b : ℕ) (bs : List ℕ) (m : ℕ) → r ≡ b ∷ bs → is_blank b ≡ false → m ≡ position_or_len is_blank r → (0 < m) × (words r ≡ take m r ∷ words (drop m r))
+word_at_front : (r : List ℕ) (b : ℕ) (bs : List ℕ) (m : ℕ) → r ≡ b ∷ bs → is_blank b ≡ false
+    → m ≡ position_or_len is_blank r → (0 < m) × (words r ≡ take m r ∷ words (drop m r))
 word_at_front r b bs m r-is e m-is =
     let w : words r ≡ before_first is_blank r ∷ words (drop (position_or_len is_blank r) r) =
-    subst (λ (x : List ℕ). words x ≡ before_first is_blank x ∷ words (drop (position_or_len is_blank x) x)) (sym r-is) (words_first b bs e) in
+    subst (λ (x : List ℕ). words x ≡ before_first is_blank x ∷ words (drop (position_or_len is_blank x) x)) (sym r-is)
+    (words_first b bs e) in
     let first : position_or_len is_blank (b ∷ bs) ≡ 1 + position_or_len is_blank bs = cond-true _ _ _ (ap not e) in
-    let long : position_or_len is_blank r ≡ 1 + position_or_len is_blank bs = ap (position_or_len is_blank) r-is ∙ first in
+    let long : position_or_len is_blank r ≡ 1 + position_or_len is_blank bs = ap (position_or_len is_blank) r-is
+    ∙ first in
     (omega arith, subst (λ (k : ℕ). words r ≡ take k r ∷ words (drop k r)) (sym m-is) w)
 
-pub word_found : (line : List ℕ) (at n m : ℕ) → at ≤ length line → position (λ b. not (is_blank b)) (drop at line) ≡ Some n → m ≡ position_or_len is_blank (drop n (drop at line)) → IsWordAt line at (at + n) (at + n + m)
+pub word_found : (line : List ℕ) (at n m : ℕ) → at ≤ length line
+    → position (λ b. not (is_blank b)) (drop at line) ≡ Some n → m ≡ position_or_len is_blank (drop n (drop at line))
+    → IsWordAt line at (at + n) (at + n + m)
 word_found line at n m inside begins m-is =
     let rest = drop at line in
     let found = position_some (λ b. not (is_blank b)) rest n begins in
     let rest-length : length rest ≡ length line - at = length-drop at line in
-    let first-stops : is_blank (get_or rest (position_or_len (λ b. not (is_blank b)) rest) 0) ≡ false = not_not-false _ (prefix_len_stops (λ b. not (not (is_blank b))) rest 0 (omega arith)) in
-    let here : is_blank (get_or rest n 0) ≡ false = subst (λ (k : ℕ). is_blank (get_or rest k 0) ≡ false) (sym found.0) first-stops in
-    let front = word_at_front (drop n rest) (get_or rest n 0) (drop (n + 1) rest) m (drop_more rest n 0 found.1) here m-is in
+    let first-stops : is_blank (get_or rest (position_or_len (λ b. not (is_blank b)) rest) 0) ≡ false =
+    not_not-false _ (prefix_len_stops (λ b. not (not (is_blank b))) rest 0 (omega arith)) in
+    let here : is_blank (get_or rest n 0) ≡ false =
+    subst (λ (k : ℕ). is_blank (get_or rest k 0) ≡ false) (sym found.0) first-stops in
+    let front = word_at_front (drop n rest) (get_or rest n 0) (drop (n + 1) rest) m (drop_more rest n 0 found.1) here
+    m-is in
     let m-le : m ≤ length (drop n rest) = omega (arith, prefix_len-le-length (λ x. not (is_blank x)) (drop n rest)) in
     let left : length (drop n rest) ≡ length rest - n = length-drop n rest in
-    let word-is : slice_range line (at + n) (at + n + m) ≡ take m (drop n rest) = slice-range-length line (at + n) m ∙ ap (take m) (sym (drop-drop n at line)) in
-    let after-is : drop (at + n + m) line ≡ drop m (drop n rest) = sym (drop-drop m (at + n) line) ∙ ap (drop m) (sym (drop-drop n at line)) in
-    let skipped : words rest ≡ words (drop n rest) = words_skip rest ∙ ap (λ (k : ℕ). words (drop k rest)) (sym found.0) in
+    let word-is : slice_range line (at + n) (at + n + m) ≡ take m (drop n rest) = slice-range-length line (at + n) m
+    ∙ ap (take m) (sym (drop-drop n at line)) in
+    let after-is : drop (at + n + m) line ≡ drop m (drop n rest) = sym (drop-drop m (at + n) line)
+    ∙ ap (drop m) (sym (drop-drop n at line)) in
+    let skipped : words rest ≡ words (drop n rest) = words_skip rest
+    ∙ ap (λ (k : ℕ). words (drop k rest)) (sym found.0) in
     record {
       in_order = (omega arith, omega arith, omega arith);
-      blanks_before = subst (AllPass is_blank) (sym (slice-range-length line at n)) (blanks_before rest n found.0 (omega arith));
-      words = skipped ∙ front.1 ∙ ap (λ (w : List ℕ). w ∷ words (drop m (drop n rest))) (sym word-is) ∙ ap (λ (r : List ℕ). slice_range line (at + n) (at + n + m) ∷ words r) (sym after-is);
+      blanks_before = subst (AllPass is_blank) (sym (slice-range-length line at n))
+          (blanks_before rest n found.0 (omega arith));
+      words = skipped ∙ front.1 ∙ ap (λ (w : List ℕ). w ∷ words (drop m (drop n rest))) (sym word-is)
+          ∙ ap (λ (r : List ℕ). slice_range line (at + n) (at + n + m) ∷ words r) (sym after-is);
     }
 
 -- where no word begins there are no words
@@ -241,12 +280,14 @@ no_words xs h =
     words_skip xs ∙ ap (λ (k : ℕ). words (drop k xs)) all ∙ ap words (drop_all (length xs) xs (omega arith))
 
 -- a line is kept by the first byte of its first word
-pub kept_by_first : (line : List ℕ) (n : ℕ) → position (λ b. not (is_blank b)) line ≡ Some n → is_kept (words line) ≡ not (eqb (get_or line n 0) 35)
+pub kept_by_first : (line : List ℕ) (n : ℕ) → position (λ b. not (is_blank b)) line ≡ Some n
+    → is_kept (words line) ≡ not (eqb (get_or line n 0) 35)
 kept_by_first line n h =
     let found = position_some (λ b. not (is_blank b)) line n h in
     let b = get_or line n 0 in
     let bs = drop (n + 1) line in
-    let here : is_blank b ≡ false = subst (λ (k : ℕ). is_blank (get_or line k 0) ≡ false) (sym found.0) (not_not-false _ (prefix_len_stops (λ b. not (not (is_blank b))) line 0 (omega arith))) in
+    let here : is_blank b ≡ false = subst (λ (k : ℕ). is_blank (get_or line k 0) ≡ false) (sym found.0)
+    (not_not-false _ (prefix_len_stops (λ b. not (not (is_blank b))) line 0 (omega arith))) in
     ap is_kept
     (words_skip line
     ∙ ap (λ (k : ℕ). words (drop k line)) (sym found.0)

@@ -40,12 +40,15 @@ GoodWords ws = AllByRecursion (λ (w : Word). IsClean (word_text w)) ws
 spaced_read : (ws : List Word) → GoodWords ws → words (spaced ws) ≡ map word_text ws
 spaced_read [] g = refl
 spaced_read (w ∷ []) g = ap words (sym (append-nil (word_text w))) ∙ clean_read (word_text w) [] g.0 refl
-spaced_read (w ∷ v ∷ more) g = clean_read (word_text w) (32 ∷ spaced (v ∷ more)) g.0 refl ∙ ap (λ (ws : List (List ℕ)). word_text w ∷ ws) (spaced_read (v ∷ more) g.1)
+spaced_read (w ∷ v ∷ more) g = clean_read (word_text w) (32 ∷ spaced (v ∷ more)) g.0 refl
+    ∙ ap (λ (ws : List (List ℕ)). word_text w ∷ ws) (spaced_read (v ∷ more) g.1)
 
 -- lines
-fed_line : (xs rest : List ℕ) → AllByRecursion (λ (b : ℕ). 32 ≤ b) xs → fed_lines ((xs ++ 10 ∷ []) ++ rest) ≡ xs ∷ fed_lines rest
+fed_line : (xs rest : List ℕ) → AllByRecursion (λ (b : ℕ). 32 ≤ b) xs
+    → fed_lines ((xs ++ 10 ∷ []) ++ rest) ≡ xs ∷ fed_lines rest
 fed_line [] rest h = refl
-fed_line (b ∷ xs) rest h = cond-false _ _ _ (not_eq b 10 (omega (arith, h.0))) ∙ ap (onto_first b) (fed_line xs rest h.1)
+fed_line (b ∷ xs) rest h = cond-false _ _ _ (not_eq b 10 (omega (arith, h.0)))
+    ∙ ap (onto_first b) (fed_line xs rest h.1)
 
 no_return : (xs : List ℕ) → AllByRecursion (λ (b : ℕ). 32 ≤ b) xs → without_return xs ≡ xs
 no_return [] h = refl
@@ -58,7 +61,8 @@ clean_inline xs h = all_weaker (λ (b : ℕ). 36 ≤ b) (λ (b : ℕ). 32 ≤ b)
 spaced_inline : (ws : List Word) → GoodWords ws → AllByRecursion (λ (b : ℕ). 32 ≤ b) (spaced ws)
 spaced_inline [] g = tt
 spaced_inline (w ∷ []) g = clean_inline (word_text w) g.0.1
-spaced_inline (w ∷ v ∷ more) g = all_join (λ (b : ℕ). 32 ≤ b) (word_text w) (32 ∷ spaced (v ∷ more)) (clean_inline (word_text w) g.0.1) (omega arith, spaced_inline (v ∷ more) g.1)
+spaced_inline (w ∷ v ∷ more) g = all_join (λ (b : ℕ). 32 ≤ b) (word_text w) (32 ∷ spaced (v ∷ more))
+    (clean_inline (word_text w) g.0.1) (omega arith, spaced_inline (v ∷ more) g.1)
 
 abbrev pub GoodLine : List Word → Type 0
 GoodLine ws = (0 < length ws) × GoodWords ws
@@ -78,7 +82,8 @@ good_kept : (l : List Word) → GoodLine l → is_kept (words (spaced l)) ≡ tr
 good_kept [] g = absurd (omega (arith, g.0))
 good_kept (w ∷ more) g = ap is_kept (spaced_read (w ∷ more) g.1) ∙ first_kept (word_text w) (map word_text more) g.1.0
 
-kept_read : (n : ℕ) (ls : List (List Word)) → AllByRecursion GoodLine ls → lines_of (kept_from n (map spaced ls)) ≡ map (λ (l : List Word). map word_text l) ls
+kept_read : (n : ℕ) (ls : List (List Word)) → AllByRecursion GoodLine ls
+    → lines_of (kept_from n (map spaced ls)) ≡ map (λ (l : List Word). map word_text l) ls
 kept_read n [] g = refl
 kept_read n (l ∷ ls) g =
     ap lines_of (cond-true _ _ _ (good_kept l g.0))
@@ -101,14 +106,16 @@ abbrev pub IsDecimal : ℕ → List ℕ → Type 0
 IsDecimal n ds = AreDigits ds × (0 < length ds) × (value_after 0 ds ≡ n)
 
 decimal_is : (n : ℕ) → n < 10 ^ 64 → IsDecimal n (decimal n)
-decimal_is n h = let d = decimal_is_IsNumeral_wide n h in (numerals.from (decimal n) d.0.1, d.0.0, numerals.same (decimal n) d.0.1 ∙ d.1)
+decimal_is n h = let d = decimal_is_IsNumeral_wide n h in
+    (numerals.from (decimal n) d.0.1, d.0.0, numerals.same (decimal n) d.0.1 ∙ d.1)
 
 digits_read : (n : ℕ) → n < 10 ^ 64 → digits_of (decimal n) ≡ Some n
 digits_read n h = let d = decimal_is n h in cond-true _ _ _ (some_digits (decimal n) d.1 d.0) ∙ ap Some d.2
 
 digits_clean : (ds : List ℕ) → list_all is_digit ds ≡ true → AreClean ds
 digits_clean [] e = tt
-digits_clean (d ∷ ds) e = let p = and_parts (is_digit d) (list_all is_digit ds) e in (omega (arith, (digit_range d p.0).0), digits_clean ds p.1)
+digits_clean (d ∷ ds) e = let p = and_parts (is_digit d) (list_all is_digit ds) e in
+    (omega (arith, (digit_range d p.0).0), digits_clean ds p.1)
 
 -- digits are bytes of a word
 pub digits_solid : (ds : List ℕ) → list_all is_digit ds ≡ true → AreSolid ds
@@ -118,14 +125,16 @@ decimal_clean : (n : ℕ) → n < 10 ^ 64 → IsClean (decimal n)
 decimal_clean n h = let d = decimal_is n h in (d.1, digits_clean (decimal n) d.0)
 
 -- digits without a minus are an integer
-pub plain_read : (ds : List ℕ) (n : ℕ) → list_all is_digit ds ≡ true → 0 < length ds → digits_of ds ≡ Some n → number_of ds ≡ Some (pos n)
+pub plain_read : (ds : List ℕ) (n : ℕ) → list_all is_digit ds ≡ true → 0 < length ds → digits_of ds ≡ Some n
+    → number_of ds ≡ Some (pos n)
 plain_read [] n e h r = absurd (omega (arith, h))
 plain_read (d ∷ ds) n e h r =
     let p = and_parts (is_digit d) (list_all is_digit ds) e in
     cond-false _ _ _ (not_eq d 45 (omega (arith, (digit_range d p.0).0))) ∙ ap (option_map (signed false)) r
 
 number_read : (z : ℤ) → unsigned_abs z < 10 ^ 64 → number_of (signed_decimal z) ≡ Some z
-number_read (pos n) h = let s : n < 10 ^ 64 = h in let d = decimal_is n s in plain_read (decimal n) n d.0 d.1 (digits_read n s)
+number_read (pos n) h = let s : n < 10 ^ 64 = h in let d = decimal_is n s in
+    plain_read (decimal n) n d.0 d.1 (digits_read n s)
 number_read (negsuc n) h = let s : suc n < 10 ^ 64 = h in ap (option_map (signed true)) (digits_read (suc n) s)
 
 number_clean : (z : ℤ) → unsigned_abs z < 10 ^ 64 → IsClean (signed_decimal z)
@@ -151,12 +160,14 @@ words_match (w ∷ ws) h = (word_matches w h.0, words_match ws h.1)
 lines_good : (ls : List (List Word)) → AllByRecursion IsWritableLine ls → AllByRecursion GoodLine ls
 lines_good ls h = all_weaker IsWritableLine GoodLine ls (λ l k. (k.0, words_good l k.1)) h
 
-lines_match : (ls : List (List Word)) → AllByRecursion IsWritableLine ls → AllZip Matches (map (λ (l : List Word). map word_text l) ls) ls
+lines_match : (ls : List (List Word)) → AllByRecursion IsWritableLine ls
+    → AllZip Matches (map (λ (l : List Word). map word_text l) ls) ls
 lines_match [] h = tt
 lines_match (l ∷ ls) h = (words_match l h.0.1, lines_match ls h.1)
 
 -- the text of lines reads as the lines
-pub text_matches : (ls : List (List Word)) → AllByRecursion IsWritableLine ls → AllZip Matches (lines_of (kept_lines (flat_map line_text ls))) ls
+pub text_matches : (ls : List (List Word)) → AllByRecursion IsWritableLine ls
+    → AllZip Matches (lines_of (kept_lines (flat_map line_text ls))) ls
 text_matches ls h =
     let g = lines_good ls h in
     subst (λ (ks : List (List (List ℕ))). AllZip Matches ks ls)

@@ -14,7 +14,13 @@ three_turned a b c = mul-comm a (b *ℤ c) ∙ sym (mul-assoc b c a)
 -- the determinant by its first point
 first_from : (o p q r : Point) → determinant (seen_from o p) q r ≡ determinant p q r -ℤ determinant o q r
 first_from o p q r =
-    omega (arith, ints, sub-mul p.x o.x (cross_product q.y q.z r.y r.z), sub-mul p.y o.y (cross_product q.z q.x r.z r.x), sub-mul p.z o.z (cross_product q.x q.y r.x r.y))
+    omega (
+      arith,
+      ints,
+      sub-mul p.x o.x (cross_product q.y q.z r.y r.z),
+      sub-mul p.y o.y (cross_product q.z q.x r.z r.x),
+      sub-mul p.z o.z (cross_product q.x q.y r.x r.y),
+    )
 
 -- the points moved by one place
 pub moved_on : (p q r : Point) → determinant p q r ≡ determinant q r p
@@ -72,10 +78,12 @@ determinant-turns o a b =
 
 -- the determinant by its second and its third point
 second_from : (o p q r : Point) → determinant p (seen_from o q) r ≡ determinant p q r -ℤ determinant p o r
-second_from o p q r = moved_on p (seen_from o q) r ∙ first_from o q r p ∙ ap₂ ◌-ℤ◌ (sym (moved_on p q r)) (sym (moved_on p o r))
+second_from o p q r = moved_on p (seen_from o q) r ∙ first_from o q r p
+    ∙ ap₂ ◌-ℤ◌ (sym (moved_on p q r)) (sym (moved_on p o r))
 
 third_from : (o p q r : Point) → determinant p q (seen_from o r) ≡ determinant p q r -ℤ determinant p q o
-third_from o p q r = moved_on p q (seen_from o r) ∙ second_from o q r p ∙ ap₂ ◌-ℤ◌ (sym (moved_on p q r)) (sym (moved_on p q o))
+third_from o p q r = moved_on p q (seen_from o r) ∙ second_from o q r p
+    ∙ ap₂ ◌-ℤ◌ (sym (moved_on p q r)) (sym (moved_on p q o))
 
 pub same_ends : (p q : Point) → determinant p q p ≡ pos 0
 same_ends p q = moved_on p q p ∙ same_two q p
@@ -86,17 +94,22 @@ same_first p q = moved_on p p q ∙ same_ends p q
 less_three : (a b c d z : ℤ) → z ≡ pos 0 → (a -ℤ b) -ℤ (c -ℤ z) ≡ a -ℤ b -ℤ c
 less_three a b c d z e = omega (arith, ints)
 
-last_two_from : (o p q r : Point) → determinant p (seen_from o q) (seen_from o r) ≡ determinant p q r -ℤ determinant p q o -ℤ determinant p o r
+last_two_from : (o p q r : Point) → determinant p (seen_from o q) (seen_from o r)
+    ≡ determinant p q r -ℤ determinant p q o -ℤ determinant p o r
 last_two_from o p q r =
     second_from o p q (seen_from o r) ∙ ap₂ ◌-ℤ◌ (third_from o p q r) (third_from o p o r)
     ∙ less_three (determinant p q r) (determinant p q o) (determinant p o r) (pos 0) (determinant p o o) (same_two p o)
 
-all_less : (whole t b c d e g x y a : ℤ) → whole ≡ (t -ℤ b -ℤ c) -ℤ (d -ℤ e -ℤ g) → e ≡ pos 0 → g ≡ pos 0 → x ≡ b → y ≡ c → whole +ℤ (x +ℤ (d +ℤ y)) ≡ t
+all_less : (whole t b c d e g x y a : ℤ) → whole ≡ (t -ℤ b -ℤ c) -ℤ (d -ℤ e -ℤ g) → e ≡ pos 0 → g ≡ pos 0 → x ≡ b
+    → y ≡ c → whole +ℤ (x +ℤ (d +ℤ y)) ≡ t
 all_less whole t b c d e g x y a h ez gz xb yc = omega (arith, ints)
 
 -- all three points as seen from another: minus what the edges make with it
-pub seen_sum : (o u v w : Point) → determinant (seen_from o u) (seen_from o v) (seen_from o w) +ℤ (determinant o u v +ℤ (determinant o v w +ℤ determinant o w u)) ≡ determinant u v w
+pub seen_sum : (o u v w : Point) → determinant (seen_from o u) (seen_from o v) (seen_from o w) +ℤ
+    (determinant o u v +ℤ (determinant o v w +ℤ determinant o w u)) ≡ determinant u v w
 seen_sum o u v w =
-    all_less (determinant (seen_from o u) (seen_from o v) (seen_from o w)) (determinant u v w) (determinant u v o) (determinant u o w) (determinant o v w) (determinant o v o) (determinant o o w) (determinant o u v) (determinant o w u) (pos 0)
+    all_less (determinant (seen_from o u) (seen_from o v) (seen_from o w)) (determinant u v w) (determinant u v o)
+    (determinant u o w) (determinant o v w) (determinant o v o) (determinant o o w) (determinant o u v)
+    (determinant o w u) (pos 0)
     (first_from o u (seen_from o v) (seen_from o w) ∙ ap₂ ◌-ℤ◌ (last_two_from o u v w) (last_two_from o o v w))
     (same_ends o v) (same_first o w) (moved_on o u v) (moved_on o w u ∙ moved_on w u o)

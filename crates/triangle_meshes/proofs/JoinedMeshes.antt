@@ -31,7 +31,8 @@ ring-up n xs =
     ∙ ap path_edges (sym (map-append (λ (k : ℕ). k + n) xs (take 1 xs)))
     ∙ path-up n (xs ++ take 1 xs)
 
-edges-up : (n : ℕ) (part : List (List ℕ)) → flat_map ring_edges (raised_part n part) ≡ map (up n) (flat_map ring_edges part)
+edges-up : (n : ℕ) (part : List (List ℕ))
+    → flat_map ring_edges (raised_part n part) ≡ map (up n) (flat_map ring_edges part)
 edges-up n [] = refl
 edges-up n (t ∷ part) =
     ap (λ (es : List (ℕ × ℕ)). es ++ flat_map ring_edges (raised_part n part)) (ring-up n t)
@@ -51,29 +52,40 @@ same_up : (n u a : ℕ) → n ≤ u → (a + n == u) ≡ (a == (u - n))
 same_up n u a le = by_test (a == (u - n)) refl
   where
     by_test : (b : Bool) → (a == (u - n)) ≡ b → (a + n == u) ≡ (a == (u - n))
-    by_test true e = let k : a ≡ u - n = grind (arith, nat_tests) in let t : (a + n == u) ≡ true = grind (arith, nat_tests) in t ∙ sym e
-    by_test false e = let k : a ≡ u - n → ⊥ = λ s. false≢true (sym e ∙ (let t : (a == (u - n)) ≡ true = grind (arith, nat_tests) in t)) in
+    by_test true e = let k : a ≡ u - n = grind (arith, nat_tests) in let t : (a + n == u) ≡ true =
+        grind (arith, nat_tests) in t ∙ sym e
+    by_test false e = let k : a ≡ u - n → ⊥ =
+        λ s. false≢true (sym e ∙ (let t : (a == (u - n)) ≡ true = grind (arith, nat_tests) in t)) in
         let t : (a + n == u) ≡ false = grind (arith, nat_tests) in t ∙ sym e
 
 not_up : (n u a : ℕ) → u < n → (a + n == u) ≡ false
 not_up n u a lt = grind (arith, nat_tests)
 
-count-up : (n u v : ℕ) (part : List (List ℕ)) → edge_count (raised_part n part) u v ≡ weigh (λ a b. one_edge u v (a + n) (b + n)) (flat_map ring_edges part)
-count-up n u v part = count_weigh u v (flat_map ring_edges (raised_part n part)) ∙ ap (weigh (one_edge u v)) (edges-up n part) ∙ weigh-up (one_edge u v) n (flat_map ring_edges part)
+count-up : (n u v : ℕ) (part : List (List ℕ))
+    → edge_count (raised_part n part) u v ≡ weigh (λ a b. one_edge u v (a + n) (b + n)) (flat_map ring_edges part)
+count-up n u v part = count_weigh u v (flat_map ring_edges (raised_part n part))
+    ∙ ap (weigh (one_edge u v)) (edges-up n part) ∙ weigh-up (one_edge u v) n (flat_map ring_edges part)
 
-count-raised : (n u v : ℕ) (part : List (List ℕ)) → n ≤ u → n ≤ v → edge_count (raised_part n part) u v ≡ edge_count part (u - n) (v - n)
+count-raised : (n u v : ℕ) (part : List (List ℕ)) → n ≤ u → n ≤ v
+    → edge_count (raised_part n part) u v ≡ edge_count part (u - n) (v - n)
 count-raised n u v part l m =
     count-up n u v part
-    ∙ weigh_same (λ a b. one_edge u v (a + n) (b + n)) (one_edge (u - n) (v - n)) (λ a b. ap (λ (x : Bool). cond (x && (b + n == v)) 1 0) (same_up n u a l) ∙ ap (λ (y : Bool). cond ((a == (u - n)) && y) 1 0) (same_up n v b m)) (flat_map ring_edges part)
+    ∙ weigh_same (λ a b. one_edge u v (a + n) (b + n)) (one_edge (u - n) (v - n))
+    (λ a b. ap (λ (x : Bool). cond (x && (b + n == v)) 1 0) (same_up n u a l)
+    ∙ ap (λ (y : Bool). cond ((a == (u - n)) && y) 1 0) (same_up n v b m)) (flat_map ring_edges part)
     ∙ sym (count_weigh (u - n) (v - n) (flat_map ring_edges part))
 
 count-left : (n u v : ℕ) (part : List (List ℕ)) → u < n → edge_count (raised_part n part) u v ≡ 0
-count-left n u v part lt = count-up n u v part ∙ weigh-none (λ a b. one_edge u v (a + n) (b + n)) (λ a b. ap (λ (x : Bool). cond (x && (b + n == v)) 1 0) (not_up n u a lt)) (flat_map ring_edges part)
+count-left n u v part lt = count-up n u v part
+    ∙ weigh-none (λ a b. one_edge u v (a + n) (b + n))
+    (λ a b. ap (λ (x : Bool). cond (x && (b + n == v)) 1 0) (not_up n u a lt)) (flat_map ring_edges part)
 
 count-right : (n u v : ℕ) (part : List (List ℕ)) → v < n → edge_count (raised_part n part) u v ≡ 0
 count-right n u v part lt =
     count-up n u v part
-    ∙ weigh-none (λ a b. one_edge u v (a + n) (b + n)) (λ a b. ap (λ (y : Bool). cond ((a + n == u) && y) 1 0) (not_up n v b lt) ∙ ap (λ (y : Bool). cond y 1 0) (and_right (a + n == u) false refl)) (flat_map ring_edges part)
+    ∙ weigh-none (λ a b. one_edge u v (a + n) (b + n))
+    (λ a b. ap (λ (y : Bool). cond ((a + n == u) && y) 1 0) (not_up n v b lt)
+    ∙ ap (λ (y : Bool). cond y 1 0) (and_right (a + n == u) false refl)) (flat_map ring_edges part)
 
 -- a closed part stays closed
 raised-closed : (n : ℕ) (part : List (List ℕ)) → IsClosed part → IsClosed (raised_part n part)
@@ -86,49 +98,70 @@ raised-closed n part closed u v =
       ]
     ]
 
-parts-closed : (n : ℕ) (parts : List (List (List ℕ))) → AllByRecursion IsClosed parts → AllByRecursion IsClosed (raised n parts)
+parts-closed : (n : ℕ) (parts : List (List (List ℕ))) → AllByRecursion IsClosed parts
+    → AllByRecursion IsClosed (raised n parts)
 parts-closed n [] h = tt
 parts-closed n (part ∷ parts) h = (raised-closed n part h.0, parts-closed n parts h.1)
 
 abbrev AreClosed : Surface → Type 0
 AreClosed s = All IsClosed s.parts
 
-joined-closed : (n : ℕ) (meshes : List Surface) → AllByRecursion AreClosed meshes → AllByRecursion IsClosed (joined_parts n meshes)
+joined-closed : (n : ℕ) (meshes : List Surface) → AllByRecursion AreClosed meshes
+    → AllByRecursion IsClosed (joined_parts n meshes)
 joined-closed n [] h = tt
 joined-closed n (s ∷ more) h =
-    all_join IsClosed (raised n s.parts) (joined_parts (n + length s.vertices) more) (parts-closed n s.parts (recursion_from_All IsClosed s.parts h.0)) (joined-closed (n + length s.vertices) more h.1)
+    all_join IsClosed (raised n s.parts) (joined_parts (n + length s.vertices) more)
+    (parts-closed n s.parts (recursion_from_All IsClosed s.parts h.0))
+    (joined-closed (n + length s.vertices) more h.1)
 
 pub all_closed : (meshes : List Surface) → All AreClosed meshes → All IsClosed (joined meshes).parts
-all_closed meshes h = All-from_recursion IsClosed (joined_parts 0 meshes) (joined-closed 0 meshes (recursion_from_All AreClosed meshes h))
+all_closed meshes h = All-from_recursion IsClosed (joined_parts 0 meshes)
+    (joined-closed 0 meshes (recursion_from_All AreClosed meshes h))
 
 -- the ids of a mesh stay below the limit
 ids_below : (n m : ℕ) (t : List ℕ) → n + m ≤ MAX_MESH_VERTICES → AllByRecursion (λ id. id < m) t → IsBelow n t
 ids_below n m [] le h = tt
 ids_below n m (k ∷ t) le h = (omega (arith, le, h.0), ids_below n m t le h.1)
 
-triangles_below : (n m : ℕ) (part : List (List ℕ)) → n + m ≤ MAX_MESH_VERTICES → AllByRecursion (λ t. All (λ id. id < m) t) part → AllByRecursion (IsBelow n) part
+triangles_below : (n m : ℕ) (part : List (List ℕ)) → n + m ≤ MAX_MESH_VERTICES
+    → AllByRecursion (λ t. All (λ id. id < m) t) part → AllByRecursion (IsBelow n) part
 triangles_below n m [] le h = tt
-triangles_below n m (t ∷ part) le h = (ids_below n m t le (recursion_from_All (λ id. id < m) t h.0), triangles_below n m part le h.1)
+triangles_below n m (t ∷ part) le h =
+    (ids_below n m t le (recursion_from_All (λ id. id < m) t h.0), triangles_below n m part le h.1)
 
-pub parts_below : (n m : ℕ) (parts : List (List (List ℕ))) → n + m ≤ MAX_MESH_VERTICES → AllByRecursion (λ part. All (λ t. All (λ id. id < m) t) part) parts → AllByRecursion (AllByRecursion (IsBelow n)) parts
+pub parts_below : (n m : ℕ) (parts : List (List (List ℕ))) → n + m ≤ MAX_MESH_VERTICES
+    → AllByRecursion (λ part. All (λ t. All (λ id. id < m) t) part) parts
+    → AllByRecursion (AllByRecursion (IsBelow n)) parts
 parts_below n m [] le h = tt
-parts_below n m (part ∷ parts) le h = (triangles_below n m part le (recursion_from_All (λ t. All (λ id. id < m) t) part h.0), parts_below n m parts le h.1)
+parts_below n m (part ∷ parts) le h = (
+  triangles_below n m part le (recursion_from_All (λ t. All (λ id. id < m) t) part h.0),
+  parts_below n m parts le h.1,
+)
 
-pub all_below : (n : ℕ) (s : Surface) → IsValid s → n + length s.vertices ≤ MAX_MESH_VERTICES → AllByRecursion (AllByRecursion (IsBelow n)) s.parts
-all_below n s v le = parts_below n (length s.vertices) s.parts le (recursion_from_All (λ part. All (λ t. All (λ id. id < length s.vertices) t) part) s.parts v.known_ids)
+pub all_below : (n : ℕ) (s : Surface) → IsValid s → n + length s.vertices ≤ MAX_MESH_VERTICES
+    → AllByRecursion (AllByRecursion (IsBelow n)) s.parts
+all_below n s v le = parts_below n (length s.vertices) s.parts le
+    (recursion_from_All (λ part. All (λ t. All (λ id. id < length s.vertices) t) part) s.parts v.known_ids)
 
 -- one of some valid meshes
-pub mesh_valid : (meshes : List Mesh) (i : ℕ) (x : Mesh) → All IsValid (map surface_of meshes) → i < length meshes → x ≡ get_or meshes i x → IsValid (surface_of x)
+pub mesh_valid : (meshes : List Mesh) (i : ℕ) (x : Mesh) → All IsValid (map surface_of meshes) → i < length meshes
+    → x ≡ get_or meshes i x → IsValid (surface_of x)
 mesh_valid meshes i x h lt e =
-    subst IsValid (get_or-map surface_of meshes i x (surface_of x) lt ∙ ap surface_of (sym e)) (h i (surface_of x) (omega (arith, lt, length-map meshes surface_of)))
+    subst IsValid (get_or-map surface_of meshes i x (surface_of x) lt ∙ ap surface_of (sym e))
+    (h i (surface_of x) (omega (arith, lt, length-map meshes surface_of)))
 
 -- the vertices so far and those of the next mesh are vertices of all
-pub few_so_far : (vs all : List Point) (xs : List Mesh) (x : Mesh) (rest : List Mesh) → vs ++ flat_map (λ (s : Surface). s.vertices) (map surface_of xs) ≡ all → xs ≡ x ∷ rest → length all ≤ MAX_MESH_VERTICES → length vs + length x.vertices.items ≤ MAX_MESH_VERTICES
+pub few_so_far : (vs all : List Point) (xs : List Mesh) (x : Mesh) (rest : List Mesh)
+    → vs ++ flat_map (λ (s : Surface). s.vertices) (map surface_of xs) ≡ all → xs ≡ x ∷ rest
+    → length all ≤ MAX_MESH_VERTICES → length vs + length x.vertices.items ≤ MAX_MESH_VERTICES
 few_so_far vs all xs x rest h e le =
     let more = flat_map (λ (s : Surface). s.vertices) (map surface_of rest) in
-    let whole : vs ++ (x.vertices.items ++ more) ≡ all = ap (λ (ys : List Mesh). vs ++ flat_map (λ (s : Surface). s.vertices) (map surface_of ys)) (sym e) ∙ h in
+    let whole : vs ++ (x.vertices.items ++ more) ≡ all =
+    ap (λ (ys : List Mesh). vs ++ flat_map (λ (s : Surface). s.vertices) (map surface_of ys)) (sym e) ∙ h in
     omega (arith, le, ap length whole, length-append vs (x.vertices.items ++ more), length-append x.vertices.items more)
 
 -- no mesh is left
-pub none_left : (ps all : List (List (List ℕ))) (n : ℕ) (xs : List Mesh) (i : ℕ) → length xs ≤ i → ps ++ joined_parts n (map surface_of (drop i xs)) ≡ all → ps ≡ all
-none_left ps all n xs i le h = sym (append-nil ps) ∙ ap (λ (ys : List Mesh). ps ++ joined_parts n (map surface_of ys)) (sym (drop_all i xs le)) ∙ h
+pub none_left : (ps all : List (List (List ℕ))) (n : ℕ) (xs : List Mesh) (i : ℕ) → length xs ≤ i
+    → ps ++ joined_parts n (map surface_of (drop i xs)) ≡ all → ps ≡ all
+none_left ps all n xs i le h = sym (append-nil ps)
+    ∙ ap (λ (ys : List Mesh). ps ++ joined_parts n (map surface_of ys)) (sym (drop_all i xs le)) ∙ h

@@ -14,7 +14,8 @@ pub three : (a b c d e f : ℕ) → a ≡ d → b ≡ e → c ≡ f → a ∷ b 
 three a b c d e f h k l = cc
 
 -- the tile at a place that is counted round both rings
-pub tile-round : (low high : List ℕ) (m n i j : ℕ) (s : Step) → m ≡ length low → n ≡ length high → tile low high (i % m) (j % n) s ≡ tile low high i j s
+pub tile-round : (low high : List ℕ) (m n i j : ℕ) (s : Step) → m ≡ length low → n ≡ length high
+    → tile low high (i % m) (j % n) s ≡ tile low high i j s
 tile-round low high m n i j s e f = ap₂ (λ (r c : ℕ). tile low high (i % r) (j % c) s) e f ∙ own s
   where
     here : (ids : List ℕ) (k : ℕ) → item_around 0 ids (k % length ids) ≡ item_around 0 ids k
@@ -32,19 +33,26 @@ abbrev Own : List ℕ → List ℕ → ℕ → Type 0
 Own low high = Contains (low ++ high)
 
 own_low : (low high : List ℕ) (i : ℕ) → 0 < length low → Own low high (item_around 0 low i)
-own_low low high i l = Contains-append_left low high (item_around 0 low i) (Contains-get_or low (i % length low) 0 (omega arith))
+own_low low high i l = Contains-append_left low high (item_around 0 low i)
+    (Contains-get_or low (i % length low) 0 (omega arith))
 
 own_high : (low high : List ℕ) (j : ℕ) → 0 < length high → Own low high (item_around 0 high j)
-own_high low high j l = Contains-append_right low high (item_around 0 high j) (Contains-get_or high (j % length high) 0 (omega arith))
+own_high low high j l = Contains-append_right low high (item_around 0 high j)
+    (Contains-get_or high (j % length high) 0 (omega arith))
 
 all_three : (P : ℕ → Type 0) (a b c : ℕ) → P a → P b → P c → All P (a ∷ b ∷ c ∷ [])
 all_three P a b c x y z = All-cons P a (b ∷ c ∷ []) x (All-cons P b (c ∷ []) y (All-cons P c [] z (All-nil P)))
 
-own_tile : (low high : List ℕ) (i j : ℕ) (s : Step) → 0 < length low → 0 < length high → All (Own low high) (tile low high i j s)
-own_tile low high i j V l h = all_three (Own low high) _ _ _ (own_low low high i l) (own_low low high (i + 1) l) (own_high low high j h)
-own_tile low high i j H l h = all_three (Own low high) _ _ _ (own_high low high (j + 1) h) (own_high low high j h) (own_low low high i l)
+own_tile : (low high : List ℕ) (i j : ℕ) (s : Step) → 0 < length low → 0 < length high
+    → All (Own low high) (tile low high i j s)
+own_tile low high i j V l h = all_three (Own low high) _ _ _ (own_low low high i l) (own_low low high (i + 1) l)
+    (own_high low high j h)
+own_tile low high i j H l h = all_three (Own low high) _ _ _ (own_high low high (j + 1) h) (own_high low high j h)
+    (own_low low high i l)
 
 -- each id of a tile is one of the rings'
-pub own_ids : (low high : List ℕ) (i j : ℕ) (w : List Step) → 0 < length low → 0 < length high → All (All (Contains (low ++ high))) (tiles low high i j w)
+pub own_ids : (low high : List ℕ) (i j : ℕ) (w : List Step) → 0 < length low → 0 < length high
+    → All (All (Contains (low ++ high))) (tiles low high i j w)
 own_ids low high i j w l h =
-    All-map (All (Own low high)) (λ (s : SpanStep). tile low high s.row s.col s.step) (spans i j w) (λ k d _. let s = get_or (spans i j w) k d in own_tile low high s.row s.col s.step l h)
+    All-map (All (Own low high)) (λ (s : SpanStep). tile low high s.row s.col s.step) (spans i j w)
+    (λ k d _. let s = get_or (spans i j w) k d in own_tile low high s.row s.col s.step l h)

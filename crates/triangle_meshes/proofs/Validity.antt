@@ -10,10 +10,14 @@ use Rattle.fku_types.specs.Points.{IsInRange}
 use Rattle.triangle_meshes.specs.Meshes.{Surface, IsValid}
 
 abbrev is_in_range : Point → Bool
-is_in_range p = nat_le (unsigned_abs p.x) 999999 && (nat_le (unsigned_abs p.y) 999999 && nat_le (unsigned_abs p.z) 999999)
+is_in_range p = nat_le (unsigned_abs p.x) 999999 &&
+    (nat_le (unsigned_abs p.y) 999999 && nat_le (unsigned_abs p.z) 999999)
 
 abbrev are_few : Surface → Bool
-are_few s = nat_le 1 (length s.vertices) && (nat_le (length s.vertices) MAX_MESH_VERTICES && (nat_le 1 (length s.parts) && (nat_le (length s.parts) MAX_MESH_PARTS && nat_le (sum_by length s.parts) MAX_MESH_TRIANGLES)))
+are_few s = nat_le 1 (length s.vertices) &&
+    (nat_le (length s.vertices) MAX_MESH_VERTICES &&
+    (nat_le 1 (length s.parts) && (nat_le (length s.parts) MAX_MESH_PARTS && nat_le (sum_by length s.parts)
+    MAX_MESH_TRIANGLES)))
 
 abbrev are_known : ℕ → List (List (List ℕ)) → Bool
 are_known n parts = list_all (λ part. nat_le 1 (length part) && list_all (list_all (λ id. nat_lt id n)) part) parts
@@ -35,7 +39,8 @@ valid_from_test s h =
     let v2 = and_parts _ _ v1.1 in
     let p1 = and_parts _ _ v2.1 in
     let p2 = and_parts _ _ p1.1 in
-    let each = AllPass-from_list_all (λ part. nat_le 1 (length part) && list_all (list_all (λ id. nat_lt id (length s.vertices))) part) s.parts b.1 in
+    let each = AllPass-from_list_all (λ part.
+    nat_le 1 (length part) && list_all (list_all (λ id. nat_lt id (length s.vertices))) part) s.parts b.1 in
     record {
       some_vertex = leb-true _ _ v1.0;
       few_vertices = leb-true _ _ v2.0;
@@ -43,6 +48,9 @@ valid_from_test s h =
       some_part = leb-true _ _ p1.0;
       few_parts = leb-true _ _ p2.0;
       some_triangle = λ k d l. leb-true _ _ (and_parts _ _ (each k d l)).0;
-      known_ids = λ k d l. λ k' d' l'. λ k'' d'' l''. ltb-true _ _ (AllPass-from_list_all (λ id. nat_lt id (length s.vertices)) _ (AllPass-from_list_all (list_all (λ id. nat_lt id (length s.vertices))) _ (and_parts _ _ (each k d l)).1 k' d' l') k'' d'' l'');
+      known_ids = λ k d l. λ k' d' l'. λ k'' d'' l''.
+          ltb-true _ _ (AllPass-from_list_all (λ id. nat_lt id (length s.vertices)) _
+          (AllPass-from_list_all (list_all (λ id. nat_lt id (length s.vertices))) _ (and_parts _ _ (each k d l)).1 k' d'
+          l') k'' d'' l'');
       few_triangles = leb-true _ _ p2.1;
     }

@@ -11,14 +11,24 @@ use Rattle.triangle_meshes.specs.Edges.{pairs_below}
 use Rattle.triangle_meshes.proofs.PairTests.{same_edge, same_pair, IsPair}
 
 -- a row of pairs differs from a pair before it
-row_apart : (a b k n : ℕ) (rest : List (ℕ × ℕ)) → a < b → AllByRecursion (IsPair n) rest → AllByRecursion (λ e. same_edge (a, n) e ≡ false) (map (λ u. (u, n)) (range_with_len b k) ++ rest)
+row_apart : (a b k n : ℕ) (rest : List (ℕ × ℕ)) → a < b → AllByRecursion (IsPair n) rest
+    → AllByRecursion (λ e. same_edge (a, n) e ≡ false) (map (λ u. (u, n)) (range_with_len b k) ++ rest)
 row_apart a b zero n [] l r = tt
-row_apart a b zero n (e ∷ es) l r = (and_right (a == e.0) (n == e.1) (ne_eqb n e.1 (λ q. absurd (omega (arith, q, r.0.1)))), row_apart a b zero n es l r.1)
-row_apart a b (suc k) n rest l r = (ap (λ (x : Bool). x && (n == n)) (ne_eqb a b (λ q. absurd (omega (arith, q)))), row_apart a (b + 1) k n rest (omega arith) r)
+row_apart a b zero n (e ∷ es) l r = (
+  and_right (a == e.0) (n == e.1) (ne_eqb n e.1 (λ q. absurd (omega (arith, q, r.0.1)))),
+  row_apart a b zero n es l r.1,
+)
+row_apart a b (suc k) n rest l r = (
+  ap (λ (x : Bool). x && (n == n)) (ne_eqb a b (λ q. absurd (omega (arith, q)))),
+  row_apart a (b + 1) k n rest (omega arith) r,
+)
 
-row_distinct : (a k n : ℕ) (rest : List (ℕ × ℕ)) → AllByRecursion (IsPair n) rest → IsDistinct same_edge rest → IsDistinct same_edge (map (λ u. (u, n)) (range_with_len a k) ++ rest)
+row_distinct : (a k n : ℕ) (rest : List (ℕ × ℕ)) → AllByRecursion (IsPair n) rest → IsDistinct same_edge rest
+    → IsDistinct same_edge (map (λ u. (u, n)) (range_with_len a k) ++ rest)
 row_distinct a zero n rest r d = d
-row_distinct a (suc k) n rest r d = IsDistinct-cons same_edge (a, n) (map (λ u. (u, n)) (range_with_len (a + 1) k) ++ rest) (row_apart a (a + 1) k n rest (omega arith) r) (row_distinct (a + 1) k n rest r d)
+row_distinct a (suc k) n rest r d =
+    IsDistinct-cons same_edge (a, n) (map (λ u. (u, n)) (range_with_len (a + 1) k) ++ rest)
+    (row_apart a (a + 1) k n rest (omega arith) r) (row_distinct (a + 1) k n rest r d)
 
 row_are : (a k n : ℕ) → a + k ≤ n + 1 → AllByRecursion (IsPair (suc n)) (map (λ u. (u, n)) (range_with_len a k))
 row_are a zero n l = tt
@@ -26,23 +36,28 @@ row_are a (suc k) n l = ((omega arith, omega arith), row_are (a + 1) k n (omega 
 
 pub pairs_are : (n : ℕ) → AllByRecursion (IsPair n) (pairs_below n)
 pairs_are zero = tt
-pairs_are (suc n) = all_join (IsPair (suc n)) (map (λ u. (u, n)) (range_with_len 0 (n + 1))) (pairs_below n) (row_are 0 (n + 1) n (omega arith)) (all_weaker (IsPair n) (IsPair (suc n)) (pairs_below n) (λ e h. (h.0, omega (arith, h.1))) (pairs_are n))
+pairs_are (suc n) = all_join (IsPair (suc n)) (map (λ u. (u, n)) (range_with_len 0 (n + 1))) (pairs_below n)
+    (row_are 0 (n + 1) n (omega arith))
+    (all_weaker (IsPair n) (IsPair (suc n)) (pairs_below n) (λ e h. (h.0, omega (arith, h.1))) (pairs_are n))
 
 pub pairs_distinct : (n : ℕ) → IsDistinct same_edge (pairs_below n)
 unfolding IsDistinct
 pairs_distinct zero = tt
 pairs_distinct (suc n) = row_distinct 0 (n + 1) n (pairs_below n) (pairs_are n) (pairs_distinct n)
 
-row_has : (a k n u : ℕ) (rest : List (ℕ × ℕ)) → a ≤ u → u < a + k → is_member same_edge (map (λ u. (u, n)) (range_with_len a k) ++ rest) (u, n) ≡ true
+row_has : (a k n u : ℕ) (rest : List (ℕ × ℕ)) → a ≤ u → u < a + k
+    → is_member same_edge (map (λ u. (u, n)) (range_with_len a k) ++ rest) (u, n) ≡ true
 row_has a zero n u rest l m = absurd (omega arith)
 row_has a (suc k) n u rest l m = by_order (cases_lt a u) (λ o. row_has (a + 1) k n u rest (omega arith) (omega arith))
   where
     tail : List (ℕ × ℕ)
     tail = map (λ u. (u, n)) (range_with_len (a + 1) k) ++ rest
 
-    by_order : (a < u) ⊎ (u ≤ a) → (a < u → is_member same_edge tail (u, n) ≡ true) → (same_edge (u, n) (a, n) || is_member same_edge tail (u, n)) ≡ true
+    by_order : (a < u) ⊎ (u ≤ a) → (a < u → is_member same_edge tail (u, n) ≡ true)
+        → (same_edge (u, n) (a, n) || is_member same_edge tail (u, n)) ≡ true
     by_order (inl o) later = or_right (same_edge (u, n) (a, n)) (is_member same_edge tail (u, n)) (later o)
-    by_order (inr o) later = or_left (same_edge (u, n) (a, n)) (is_member same_edge tail (u, n)) (and_from (u == a) (n == n) (eq-eqb u a (omega arith)) (eq-eqb n n refl))
+    by_order (inr o) later = or_left (same_edge (u, n) (a, n)) (is_member same_edge tail (u, n))
+        (and_from (u == a) (n == n) (eq-eqb u a (omega arith)) (eq-eqb n n refl))
 
 pub pairs_have : (n u v : ℕ) → u ≤ v → v < n → is_member same_edge (pairs_below n) (u, v) ≡ true
 pairs_have zero u v l m = absurd (omega arith)
@@ -51,11 +66,16 @@ pairs_have (suc n) u v l m = by_order (cases_lt v n) (pairs_have n u v l)
     row : List (ℕ × ℕ)
     row = map (λ u. (u, n)) (range_with_len 0 (n + 1))
 
-    by_order : (v < n) ⊎ (n ≤ v) → (v < n → is_member same_edge (pairs_below n) (u, v) ≡ true) → is_member same_edge (row ++ pairs_below n) (u, v) ≡ true
-    by_order (inl o) earlier = list_any-append (same_edge (u, v)) row (pairs_below n) ∙ or_right (is_member same_edge row (u, v)) (is_member same_edge (pairs_below n) (u, v)) (earlier o)
-    by_order (inr o) earlier = (let e : v ≡ n = omega arith in ap (λ (w : ℕ). is_member same_edge (row ++ pairs_below n) (u, w)) e ∙ row_has 0 (n + 1) n u (pairs_below n) (omega arith) (omega arith))
+    by_order : (v < n) ⊎ (n ≤ v) → (v < n → is_member same_edge (pairs_below n) (u, v) ≡ true)
+        → is_member same_edge (row ++ pairs_below n) (u, v) ≡ true
+    by_order (inl o) earlier = list_any-append (same_edge (u, v)) row (pairs_below n)
+        ∙ or_right (is_member same_edge row (u, v)) (is_member same_edge (pairs_below n) (u, v)) (earlier o)
+    by_order (inr o) earlier = (let e : v ≡ n = omega arith in
+        ap (λ (w : ℕ). is_member same_edge (row ++ pairs_below n) (u, w)) e
+        ∙ row_has 0 (n + 1) n u (pairs_below n) (omega arith) (omega arith))
 
-pub member_is : (n : ℕ) (es : List (ℕ × ℕ)) (q : ℕ × ℕ) → AllByRecursion (IsPair n) es → is_member same_edge es q ≡ true → IsPair n q
+pub member_is : (n : ℕ) (es : List (ℕ × ℕ)) (q : ℕ × ℕ) → AllByRecursion (IsPair n) es → is_member same_edge es q ≡ true
+    → IsPair n q
 member_is n [] q a t = absurd (let f : false ≡ true = t in cc)
 member_is n (e ∷ es) q a t = by_test (same_edge q e) refl (member_is n es q a.1)
   where
@@ -63,14 +83,17 @@ member_is n (e ∷ es) q a t = by_test (same_edge q e) refl (member_is n es q a.
     by_test true h later = subst (IsPair n) (sym (same_pair q e h)) a.0
     by_test false h later = later (ap (λ (b : Bool). b || is_member same_edge es q) (sym h) ∙ t)
 
-pub kept_distinct : (p : ℕ × ℕ → Bool) (es : List (ℕ × ℕ)) → IsDistinct same_edge es → IsDistinct same_edge (filter p es)
+pub kept_distinct : (p : ℕ × ℕ → Bool) (es : List (ℕ × ℕ)) → IsDistinct same_edge es
+    → IsDistinct same_edge (filter p es)
 unfolding IsDistinct
 kept_distinct p [] d = tt
 kept_distinct p (e ∷ es) d = by_test (p e) (apart d.0) (kept_distinct p es d.1)
   where
     apart : AllByRecursion (λ y. same_edge e y ≡ false) es → AllByRecursion (λ y. same_edge e y ≡ false) (filter p es)
-    apart a = let Apart : ℕ × ℕ → Type 0 = λ y. same_edge e y ≡ false in recursion_from_All Apart (filter p es) (All-filter p Apart es (All-from_recursion Apart es a))
+    apart a = let Apart : ℕ × ℕ → Type 0 = λ y. same_edge e y ≡ false in
+        recursion_from_All Apart (filter p es) (All-filter p Apart es (All-from_recursion Apart es a))
 
-    by_test : (b : Bool) → AllByRecursion (λ y. same_edge e y ≡ false) (filter p es) → IsDistinct same_edge (filter p es) → IsDistinct same_edge (cond b (e ∷ filter p es) (filter p es))
+    by_test : (b : Bool) → AllByRecursion (λ y. same_edge e y ≡ false) (filter p es)
+        → IsDistinct same_edge (filter p es) → IsDistinct same_edge (cond b (e ∷ filter p es) (filter p es))
     by_test true apart later = IsDistinct-cons same_edge e (filter p es) apart later
     by_test false apart later = later

@@ -8,8 +8,13 @@ use Rattle.triangle_meshes.specs.Volumes.{seen_from, determinant, six_volume}
 -- the surface of two squares, one above the other
 abbrev squares : Surface
 squares = record {
-  vertices = record { x = pos 0; y = pos 0; z = pos 0 } ∷ record { x = pos 10; y = pos 0; z = pos 0 } ∷ record { x = pos 10; y = pos 10; z = pos 0 } ∷ record { x = pos 0; y = pos 10; z = pos 0 } ∷ record { x = pos 0; y = pos 0; z = pos 10 } ∷ record { x = pos 10; y = pos 0; z = pos 10 } ∷ record { x = pos 10; y = pos 10; z = pos 10 } ∷ record { x = pos 0; y = pos 10; z = pos 10 } ∷ [];
-  parts = ((3 ∷ 1 ∷ 0 ∷ []) ∷ (1 ∷ 3 ∷ 2 ∷ []) ∷ (0 ∷ 1 ∷ 4 ∷ []) ∷ (5 ∷ 4 ∷ 1 ∷ []) ∷ (1 ∷ 2 ∷ 5 ∷ []) ∷ (6 ∷ 5 ∷ 2 ∷ []) ∷ (2 ∷ 3 ∷ 6 ∷ []) ∷ (7 ∷ 6 ∷ 3 ∷ []) ∷ (3 ∷ 0 ∷ 7 ∷ []) ∷ (4 ∷ 7 ∷ 0 ∷ []) ∷ (7 ∷ 4 ∷ 5 ∷ []) ∷ (5 ∷ 6 ∷ 7 ∷ []) ∷ []) ∷ [];
+  vertices = record { x = pos 0; y = pos 0; z = pos 0 } ∷ record { x = pos 10; y = pos 0; z = pos 0 }
+      ∷ record { x = pos 10; y = pos 10; z = pos 0 } ∷ record { x = pos 0; y = pos 10; z = pos 0 }
+      ∷ record { x = pos 0; y = pos 0; z = pos 10 } ∷ record { x = pos 10; y = pos 0; z = pos 10 }
+      ∷ record { x = pos 10; y = pos 10; z = pos 10 } ∷ record { x = pos 0; y = pos 10; z = pos 10 } ∷ [];
+  parts = ((3 ∷ 1 ∷ 0 ∷ []) ∷ (1 ∷ 3 ∷ 2 ∷ []) ∷ (0 ∷ 1 ∷ 4 ∷ []) ∷ (5 ∷ 4 ∷ 1 ∷ []) ∷ (1 ∷ 2 ∷ 5 ∷ [])
+      ∷ (6 ∷ 5 ∷ 2 ∷ []) ∷ (2 ∷ 3 ∷ 6 ∷ []) ∷ (7 ∷ 6 ∷ 3 ∷ []) ∷ (3 ∷ 0 ∷ 7 ∷ []) ∷ (4 ∷ 7 ∷ 0 ∷ []) ∷ (7 ∷ 4 ∷ 5 ∷ [])
+      ∷ (5 ∷ 6 ∷ 7 ∷ []) ∷ []) ∷ [];
 }
 
 pub squares-about_the_origin : six_volume squares origin ≡ pos 6000
@@ -33,8 +38,11 @@ one-about_a_point = refl
 abbrev unit : ℕ → ℕ → ℕ → Point
 unit x y z = record { x = pos x; y = pos y; z = pos z }
 
-seen : seen_from (record { x = pos 7; y = negsuc 2; z = pos 5 }) (unit 10 0 1) ≡ record { x = pos 3; y = pos 3; z = negsuc 3 }
+seen : seen_from (record { x = pos 7; y = negsuc 2; z = pos 5 }) (unit 10 0 1)
+    ≡ record { x = pos 3; y = pos 3; z = negsuc 3 }
 seen = refl
 
-units : (determinant (unit 1 0 0) (unit 0 1 0) (unit 0 0 1) ≡ pos 1) × (determinant (unit 0 1 0) (unit 1 0 0) (unit 0 0 1) ≡ negsuc 0) × (determinant (unit 1 2 3) (unit 4 5 6) (unit 7 8 10) ≡ negsuc 2)
+units : (determinant (unit 1 0 0) (unit 0 1 0) (unit 0 0 1) ≡ pos 1)
+    × (determinant (unit 0 1 0) (unit 1 0 0) (unit 0 0 1) ≡ negsuc 0)
+    × (determinant (unit 1 2 3) (unit 4 5 6) (unit 7 8 10) ≡ negsuc 2)
 units = (refl, refl, refl)

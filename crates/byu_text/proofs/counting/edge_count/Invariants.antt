@@ -8,6 +8,7 @@ use Rattle.byu_text.proofs.counting.edge_count.Given as goal
 
 abbrev pub invariant-loop-part : goal.invariant-loop-part
 invariant-loop-part l = record {
-  keys : l.keys.items ≡ map edge_key (flat_map ring_edges (flat_map (λ part. part) (take l.part-index (triangle_lists l.mesh.parts.items))));
+  keys : l.keys.items ≡ map edge_key
+      (flat_map ring_edges (flat_map (λ part. part) (take l.part-index (triangle_lists l.mesh.parts.items))));
   count : vec_len l.keys ≡ 3 * sum_by length (take l.part-index (triangle_lists l.mesh.parts.items));
 }

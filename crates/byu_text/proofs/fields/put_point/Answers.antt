@@ -10,7 +10,8 @@ returns c =
     let y = c.coordinate_field-2.result in
     let z = c.field_of.result in
     let on : List ℕ → List ℕ → List ℕ = λ more l. l ++ more in
-    c.in_ok-extend_from_slice-3.ensures.items ∙ ap (on z) (c.in_ok-extend_from_slice-2.ensures.items ∙ ap (on y) c.in_ok-extend_from_slice.ensures.items)
+    c.in_ok-extend_from_slice-3.ensures.items
+    ∙ ap (on z) (c.in_ok-extend_from_slice-2.ensures.items ∙ ap (on y) c.in_ok-extend_from_slice.ensures.items)
     ∙ point_made p.x p.y p.z c.args.text.now.items x y z
     (c.coordinate_field.ensures ∙ ap coordinate_field (passed p.x c.requires.x))
     (c.coordinate_field-2.ensures ∙ ap coordinate_field (passed p.y c.requires.y))

@@ -8,7 +8,9 @@ pub loop-id-preserved : goal.loop-id-preserved
 loop-id-preserved c =
     let id = c.loop-id.id in
     record {
-      table = c.in_ok-push.ensures.items ∙ ap₂ (λ (t : List VertexFields) (f : VertexFields). t ++ f ∷ []) c.loop-id.invariant.table c.loop-id.invariant.fields
+      table = c.in_ok-push.ensures.items
+          ∙ ap₂ (λ (t : List VertexFields) (f : VertexFields). t ++ f ∷ []) c.loop-id.invariant.table
+          c.loop-id.invariant.fields
           ∙ sym (map-range_with_len_more vertex_fields 0 id id (omega arith));
       fields = c.next_fields-fields.ensures;
     }

@@ -8,5 +8,6 @@ abbrev pub invariant-loop-pair : goal.invariant-loop-pair
 invariant-loop-pair l = record {
   are : ArePoints (counts_of l.head) l.points.items;
   count : length l.points.items ≡ 2 * l.pair;
-  lines : drop (point_lines_at (counts_of l.head)) l.text ≡ concat (point_lines l.points.items) ++ drop (point_lines_at (counts_of l.head) + 73 * l.pair) l.text;
+  lines : drop (point_lines_at (counts_of l.head)) l.text ≡ concat (point_lines l.points.items)
+      ++ drop (point_lines_at (counts_of l.head) + 73 * l.pair) l.text;
 }

@@ -9,5 +9,6 @@ abbrev pub invariant-loop-i : goal.invariant-loop-i
 invariant-loop-i l = record {
   are : AreTriangles (counts_of l.head) l.triangles.items;
   count : length l.triangles.items ≡ l.i;
-  lines : drop (polygons_at (counts_of l.head)) l.text ≡ concat (map polygon_line l.triangles.items) ++ drop (polygons_at (counts_of l.head) + 25 * l.i) l.text;
+  lines : drop (polygons_at (counts_of l.head)) l.text ≡ concat (map polygon_line l.triangles.items)
+      ++ drop (polygons_at (counts_of l.head) + 25 * l.i) l.text;
 }

@@ -19,5 +19,8 @@ returns c =
     let at : ℕ = c.args.at in
     let count : ℕ = c.args.count in
     let k : at + count - at ≡ count = omega arith in
-    subst (λ (n : ℕ). (length (take n (drop at text)) ≡ count) × (drop at text ≡ (take n (drop at text) ++ 10 ∷ []) ++ drop (at + (count + 1)) text)) (sym k)
-    (length-take-le count (drop at text) (omega (arith, length-drop at text, c.if-text-at.false)), line_there text at count c.if-text-at.false (c.is_feed.ensures.0 c.if-not-is_feed.false))
+    subst (λ (n : ℕ). (length (take n (drop at text)) ≡ count)
+    × (drop at text ≡ (take n (drop at text) ++ 10 ∷ []) ++ drop (at + (count + 1)) text)) (sym k) (
+      length-take-le count (drop at text) (omega (arith, length-drop at text, c.if-text-at.false)),
+      line_there text at count c.if-text-at.false (c.is_feed.ensures.0 c.if-not-is_feed.false),
+    )

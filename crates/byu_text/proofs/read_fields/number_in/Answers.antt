@@ -14,13 +14,16 @@ returns-then-is_empty c n h e =
     absurd (omega (arith, none, ap length e, decimal_nonempty n (omega arith)))
 
 pub returns-then-digits-gt1 : goal.returns-then-digits-gt1
-returns-then-digits-gt1 c n h e = absurd (omega (arith, begins n c.args.digits.now h e c.if-digits-eq48.true, c.if-digits-gt1.true))
+returns-then-digits-gt1 c n h e = absurd
+    (omega (arith, begins n c.args.digits.now h e c.if-digits-eq48.true, c.if-digits-gt1.true))
 
 pub returns-then-not-is_digit : goal.returns-then-not-is_digit
 returns-then-not-is_digit c n h e =
     let i : ℕ = c.loop-byte.byte-index in
-    let digit : IsInRange 48 57 (get_or c.args.digits.now i 0) = subst AreDigits (sym e) (digits_of n h) i c.loop-byte-test.true in
-    absurd (let t : c.is_digit.result ≡ true = c.is_digit.ensures.1 digit in let f : c.is_digit.result ≡ false = c.if-not-is_digit.true in cc)
+    let digit : IsInRange 48 57 (get_or c.args.digits.now i 0) =
+    subst AreDigits (sym e) (digits_of n h) i c.loop-byte-test.true in
+    absurd (let t : c.is_digit.result ≡ true = c.is_digit.ensures.1 digit in let f : c.is_digit.result ≡ false =
+    c.if-not-is_digit.true in cc)
 
 pub overflow_mul-number : goal.overflow_mul-number
 overflow_mul-number c =
@@ -30,14 +33,19 @@ overflow_mul-number c =
 pub returns : goal.returns
 returns c =
     let ds = c.args.digits.now in
-    let end : c.loop-byte.byte-index ≡ length ds = omega (arith, c.loop-byte-test.false, c.loop-byte.auto.byte-index-end) in
-    let value : c.loop-byte.number ≡ told ds = c.loop-byte.invariant.value ∙ ap told (take_all c.loop-byte.byte-index ds (omega (arith, end))) in
+    let end : c.loop-byte.byte-index ≡ length ds =
+    omega (arith, c.loop-byte-test.false, c.loop-byte.auto.byte-index-end) in
+    let value : c.loop-byte.number ≡ told ds = c.loop-byte.invariant.value
+    ∙ ap told (take_all c.loop-byte.byte-index ds (omega (arith, end))) in
     let some : 0 < length ds = grind (arith, nat_tests) in
-    let begins : get_or ds 0 0 ≡ 48 → length ds ≡ 1 = λ z. (let few = single ds z c.else-digits-eq48.either in omega (arith, few, some)) in (
+    let begins : get_or ds 0 0 ≡ 48 → length ds ≡ 1 =
+    λ z. (let few = single ds z c.else-digits-eq48.either in omega (arith, few, some)) in (
       subst (λ (i : ℕ). c.loop-byte.number < 10 ^ i) end c.loop-byte.invariant.small,
-      written_by ds (λ i l. c.loop-byte.invariant.digits i (omega (arith, end, l))) some (omega (arith, c.requires)) begins ∙ ap decimal (sym value),
+      written_by ds (λ i l. c.loop-byte.invariant.digits i (omega (arith, end, l))) some (omega (arith, c.requires))
+          begins ∙ ap decimal (sym value),
     )
   where
-    single : (ds : List ℕ) → get_or ds 0 0 ≡ 48 → ((get_or ds 0 0 ≡ 48) × (length ds ≤ 1)) ⊎ (get_or ds 0 0 ≡ 48 → ⊥) → length ds ≤ 1
+    single : (ds : List ℕ) → get_or ds 0 0 ≡ 48 → ((get_or ds 0 0 ≡ 48) × (length ds ≤ 1)) ⊎ (get_or ds 0 0 ≡ 48 → ⊥)
+        → length ds ≤ 1
     single ds p (inl q) = q.1
     single ds p (inr n) = absurd (n p)

@@ -17,7 +17,12 @@ returns c =
     let field = c.args.field.now in
     let rest = c.behind_blanks.result.now in
     let few : length rest ≤ 8 = omega (arith, ap length b.blanks.1, length-append {A = ℕ}, c.requires) in
-    answers c.number_in.result ((n : ℕ) → n < 10 ^ 8 → rest ≡ decimal n → ⊥) ((n : ℕ) → n < 10 ^ 8 → field ≡ number_field (pos n) → ⊥) (λ n. (n < 10 ^ length rest) × (rest ≡ decimal n)) (λ n. (n < 10 ^ 8) × (field ≡ number_field (pos n)))
+    answers c.number_in.result ((n : ℕ) → n < 10 ^ 8 → rest ≡ decimal n → ⊥)
+    ((n : ℕ) → n < 10 ^ 8 → field ≡ number_field (pos n) → ⊥) (λ n. (n < 10 ^ length rest) × (rest ≡ decimal n))
+    (λ n. (n < 10 ^ 8) × (field ≡ number_field (pos n)))
     (λ none n h e. none n h (behind_field (pos n) b.blanks.0 field rest (fits_pos n h) b.begins b.blanks.1 e))
-    (λ n h. (omega (arith, h.0, pow-le-pow_right {n = 10} (omega arith) few), field_of (pos n) b.blanks.0 field rest c.requires b.blanks.1 h.1))
+    (λ n h. (
+      omega (arith, h.0, pow-le-pow_right {n = 10} (omega arith) few),
+      field_of (pos n) b.blanks.0 field rest c.requires b.blanks.1 h.1,
+    ))
     c.number_in.ensures

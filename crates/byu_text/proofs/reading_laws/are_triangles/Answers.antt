@@ -14,7 +14,8 @@ loop-part-preserved c =
     let i : ℕ = c.loop-part.part-index in
     let lists = triangle_lists ps in
     let l : i < length ps = omega (arith, c.loop-part-test.true, ap length c.deref-part-items.ensures.value) in
-    let here = c.deref.ensures.value ∙ part_read ps c.deref-part-items.result.now i c.part-item.result [] c.deref-part-items.ensures.value l c.part-item.is in
+    let here = c.deref.ensures.value ∙ part_read ps c.deref-part-items.result.now i c.part-item.result []
+    c.deref-part-items.ensures.value l c.part-item.is in
     let there : i < length lists = omega (arith, length-map ps (λ (x : Part). x.items)) in
     All-more AreThree lists i [] there c.loop-part.invariant (subst AreThree here c.have_three.ensures)
 
@@ -22,5 +23,11 @@ pub returns : goal.returns
 returns c =
     let ps = c.args.mesh.now.parts.items in
     let lists = triangle_lists ps in
-    let all : length lists ≤ c.loop-part.part-index = omega (arith, c.loop-part-test.false, ap length c.deref-part-items.ensures.value, length-map ps (λ (x : Part). x.items)) in
+    let all : length lists ≤ c.loop-part.part-index =
+    omega (
+      arith,
+      c.loop-part-test.false,
+      ap length c.deref-part-items.ensures.value,
+      length-map ps (λ (x : Part). x.items),
+    ) in
     subst (All AreThree) (take_all c.loop-part.part-index lists all) c.loop-part.invariant

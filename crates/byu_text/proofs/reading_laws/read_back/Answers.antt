@@ -38,10 +38,12 @@ pub returns-clause-ok : goal.returns-clause-ok
 returns-clause-ok c =
     let s = surface_of c.args.mesh.now in
     let m : IsMesh s = record { valid = c.requires; triangles = c.are_triangles.ensures } in
-    back s c.read_byu.result (c.read_byu.ensures.given s (record { mesh = m; same = c.deref.ensures.value ∙ c.in_ok-text.ensures }))
+    back s c.read_byu.result (c.read_byu.ensures.given s
+    (record { mesh = m; same = c.deref.ensures.value ∙ c.in_ok-text.ensures }))
 
 pub returns-clause-err : goal.returns-clause-err
 returns-clause-err c =
     let s = surface_of c.args.mesh.now in
     let m : IsMesh s = record { valid = c.requires; triangles = c.are_triangles.ensures } in
-    lost s c.read_byu.result (c.read_byu.ensures.given s (record { mesh = m; same = c.deref.ensures.value ∙ c.in_ok-text.ensures }))
+    lost s c.read_byu.result (c.read_byu.ensures.given s
+    (record { mesh = m; same = c.deref.ensures.value ∙ c.in_ok-text.ensures }))

@@ -11,7 +11,9 @@ use Rattle.byu_text.proofs.sizes.read_sizes.Goals as goal
 pub returns-in_default-clause-err : goal.returns-in_default-clause-err
 returns-in_default-clause-err c =
     let inv = c.loop-part.invariant in
-    size_fault_at c.args.text.now (counts_of c.args.head) c.loop-part.sizes.items c.loop-part.first c.loop-part.part (33 + 17 * c.loop-part.part) c.requires inv.are inv.count inv.first c.loop-part-test.true inv.lines c.in_default.ensures
+    size_fault_at c.args.text.now (counts_of c.args.head) c.loop-part.sizes.items c.loop-part.first c.loop-part.part
+    (33 + 17 * c.loop-part.part) c.requires inv.are inv.count inv.first c.loop-part-test.true inv.lines
+    c.in_default.ensures
 
 pub loop-part-preserved : goal.loop-part-preserved
 loop-part-preserved c =
@@ -19,11 +21,16 @@ loop-part-preserved c =
     let old = c.loop-part.sizes.items in
     let n : ℕ = c.in-Some.size in
     let items = c.in_ok-extend_from_slice.ensures.items in
-    let lines = size_lines_more c.args.text.now old n c.loop-part.first (33 + 17 * c.loop-part.part) (33 + 17 * c.loop-part.part + 17) inv.first inv.lines c.in-Some.ensures.1 in
+    let lines = size_lines_more c.args.text.now old n c.loop-part.first (33 + 17 * c.loop-part.part)
+    (33 + 17 * c.loop-part.part + 17) inv.first inv.lines c.in-Some.ensures.1 in
     record {
-      are = subst (AreSizes (counts_of c.args.head)) (sym items) (sizes_more (counts_of c.args.head) old n c.loop-part.first c.loop-part.part inv.are inv.count inv.first c.loop-part-test.true c.in-Some.ensures.0);
+      are = subst (AreSizes (counts_of c.args.head)) (sym items)
+          (sizes_more (counts_of c.args.head) old n c.loop-part.first c.loop-part.part inv.are inv.count inv.first
+          c.loop-part-test.true c.in-Some.ensures.0);
       count = omega (arith, ap length items, length-append old (n ∷ []), inv.count);
       first = omega (arith, ap sum items, sum_by_push (λ (x : ℕ). x) old n, inv.first);
-      lines = lines ∙ ap (λ (k : ℕ). concat (size_lines 1 (old ++ n ∷ [])) ++ drop k c.args.text.now) (let k : 33 + 17 * c.loop-part.part + 17 ≡ 33 + 17 * (c.loop-part.part + 1) = omega arith in k)
-          ∙ ap (λ (l : List ℕ). concat (size_lines 1 l) ++ drop (33 + 17 * (c.loop-part.part + 1)) c.args.text.now) (sym items);
+      lines = lines ∙ ap (λ (k : ℕ). concat (size_lines 1 (old ++ n ∷ [])) ++ drop k c.args.text.now)
+          (let k : 33 + 17 * c.loop-part.part + 17 ≡ 33 + 17 * (c.loop-part.part + 1) = omega arith in k)
+          ∙ ap (λ (l : List ℕ). concat (size_lines 1 l) ++ drop (33 + 17 * (c.loop-part.part + 1)) c.args.text.now)
+          (sym items);
     }

@@ -8,26 +8,37 @@ use Rattle.byu_text.proofs.TextLaws.{table_long, table_whole, pieces_more, text_
 use Rattle.byu_text.proofs.texts.write_byu.Goals as goal
 
 pub write_polygons-requires-clause-table : goal.write_polygons-requires-clause-table
-write_polygons-requires-clause-table c = table_whole c.deref-in-loop-part.result.now c.len-3.result (c.deref-in-loop-part.ensures.value ∙ c.in_ok-table.ensures)
+write_polygons-requires-clause-table c =
+    table_whole c.deref-in-loop-part.result.now c.len-3.result
+    (c.deref-in-loop-part.ensures.value ∙ c.in_ok-table.ensures)
 
 pub write_polygons-requires-clause-ids : goal.write_polygons-requires-clause-ids
 write_polygons-requires-clause-ids c =
     let ps = c.args.mesh.now.parts.items in
     let i = c.loop-part.part-index in
     let l : i < length ps = omega (arith, c.loop-part-test.true, ap length c.deref-part-items.ensures.value) in
-    let here = c.deref-in-loop-part-2.ensures.value ∙ part_read ps c.deref-part-items.result.now i c.part-item.result [] c.deref-part-items.ensures.value l c.part-item.is in
+    let here = c.deref-in-loop-part-2.ensures.value
+    ∙ part_read ps c.deref-part-items.result.now i c.part-item.result [] c.deref-part-items.ensures.value l
+    c.part-item.is in
     let there : i < length (triangle_lists ps) = omega (arith, length-map ps (λ (x : Part). x.items)) in
-    let known : length c.deref-in-loop-part.result.now ≡ length c.args.mesh.now.vertices.items = table_long c.deref-in-loop-part.result.now c.len-3.result (c.deref-in-loop-part.ensures.value ∙ c.in_ok-table.ensures) ∙ c.len-3.ensures ∙ c.args.mesh.now.vertices.ok.0 in
-    subst (All (All (λ id. id < length c.deref-in-loop-part.result.now))) (sym here) (λ k d m k' d' m'. (let small = c.requires.known_ids i [] there k d m k' d' m' in omega (arith, small, known)))
+    let known : length c.deref-in-loop-part.result.now ≡ length c.args.mesh.now.vertices.items =
+    table_long c.deref-in-loop-part.result.now c.len-3.result
+    (c.deref-in-loop-part.ensures.value ∙ c.in_ok-table.ensures) ∙ c.len-3.ensures
+    ∙ c.args.mesh.now.vertices.ok.0 in
+    subst (All (All (λ id. id < length c.deref-in-loop-part.result.now))) (sym here)
+    (λ k d m k' d' m'. (let small = c.requires.known_ids i [] there k d m k' d' m' in omega (arith, small, known)))
 
 pub loop-part-preserved : goal.loop-part-preserved
 loop-part-preserved c =
     let ps = c.args.mesh.now.parts.items in
     let i = c.loop-part.part-index in
     let l : i < length ps = omega (arith, c.loop-part-test.true, ap length c.deref-part-items.ensures.value) in
-    let here = c.deref-in-loop-part-2.ensures.value ∙ part_read ps c.deref-part-items.result.now i c.part-item.result [] c.deref-part-items.ensures.value l c.part-item.is in
+    let here = c.deref-in-loop-part-2.ensures.value
+    ∙ part_read ps c.deref-part-items.result.now i c.part-item.result [] c.deref-part-items.ensures.value l
+    c.part-item.is in
     let there : i < length (triangle_lists ps) = omega (arith, length-map ps (λ (x : Part). x.items)) in
-    pieces_more (flat_map polygon_line) c.write_vertices.new.text.items c.loop-part.text.items c.write_polygons.new.text.items (triangle_lists ps) i [] there c.loop-part.invariant
+    pieces_more (flat_map polygon_line) c.write_vertices.new.text.items c.loop-part.text.items
+    c.write_polygons.new.text.items (triangle_lists ps) i [] there c.loop-part.invariant
     (c.in_ok-write_polygons.ensures ∙ ap (λ t. c.loop-part.text.items ++ flat_map polygon_line t) here)
 
 pub returns : goal.returns
@@ -35,9 +46,19 @@ returns c =
     let s = surface_of c.args.mesh.now in
     let lists = triangle_lists c.args.mesh.now.parts.items in
     let i = c.loop-part.part-index in
-    let done : length lists ≤ i = omega (arith, c.loop-part-test.false, ap length c.deref-part-items.ensures.value, length-map c.args.mesh.now.parts.items (λ (x : Part). x.items)) in
-    let parts = c.in_ok-write_parts.ensures ∙ ap (λ l. c.write_counts.new.text.items ++ part_ranges 1 (triangle_lists l)) c.deref.ensures.value in
-    let vertices = c.in_ok-write_vertices.ensures ∙ ap (λ l. c.write_parts.new.text.items ++ vertex_lines l) c.deref-2.ensures.value in
-    let polygons = c.loop-part.invariant ∙ ap (λ l. c.write_vertices.new.text.items ++ flat_map (flat_map polygon_line) l) (take_all i lists done) in
-    text_made (counts_line s) (part_ranges 1 lists) (vertex_lines s.vertices) (flat_map (flat_map polygon_line) lists) c.in_ok-text.text.items c.write_counts.new.text.items c.write_parts.new.text.items c.write_vertices.new.text.items c.loop-part.text.items
+    let done : length lists ≤ i = omega (
+      arith,
+      c.loop-part-test.false,
+      ap length c.deref-part-items.ensures.value,
+      length-map c.args.mesh.now.parts.items (λ (x : Part). x.items),
+    ) in
+    let parts = c.in_ok-write_parts.ensures
+    ∙ ap (λ l. c.write_counts.new.text.items ++ part_ranges 1 (triangle_lists l)) c.deref.ensures.value in
+    let vertices = c.in_ok-write_vertices.ensures
+    ∙ ap (λ l. c.write_parts.new.text.items ++ vertex_lines l) c.deref-2.ensures.value in
+    let polygons = c.loop-part.invariant
+    ∙ ap (λ l. c.write_vertices.new.text.items ++ flat_map (flat_map polygon_line) l) (take_all i lists done) in
+    text_made (counts_line s) (part_ranges 1 lists) (vertex_lines s.vertices) (flat_map (flat_map polygon_line) lists)
+    c.in_ok-text.text.items c.write_counts.new.text.items c.write_parts.new.text.items
+    c.write_vertices.new.text.items c.loop-part.text.items
     c.in_ok-text.ensures.items c.in_ok-write_counts.ensures parts vertices polygons

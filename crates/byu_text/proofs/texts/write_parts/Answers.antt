@@ -12,7 +12,12 @@ put_part-requires-clause-last c =
     let i = c.loop-part.part-index in
     let here = part_read ps ps i c.part-item.result [] refl c.loop-part-test.true c.part-item.is in
     let there : i < length (triangle_lists ps) = omega (arith, length-map ps (λ (x : Part). x.items)) in
-    omega (arith, c.loop-part.invariant.next, c.len-next.ensures ∙ c.part-item.result.ok.0 ∙ ap length here, sum_by_more_le length (triangle_lists ps) i [] there)
+    omega (
+      arith,
+      c.loop-part.invariant.next,
+      c.len-next.ensures ∙ c.part-item.result.ok.0 ∙ ap length here,
+      sum_by_more_le length (triangle_lists ps) i [] there,
+    )
 
 pub loop-part-preserved : goal.loop-part-preserved
 loop-part-preserved c =
@@ -21,6 +26,13 @@ loop-part-preserved c =
     let here = part_read ps ps i c.part-item.result [] refl c.loop-part-test.true c.part-item.is in
     let there : i < length (triangle_lists ps) = omega (arith, length-map ps (λ (x : Part). x.items)) in
     record {
-      lines = part_more (triangle_lists ps) i c.loop-part.next c.len-next.result c.loop-part.text.items c.put_part.new.text.items _ there (c.len-next.ensures ∙ c.part-item.result.ok.0 ∙ ap length here) c.in_ok-put_part.ensures c.loop-part.invariant.lines;
-      next = omega (arith, c.loop-part.invariant.next, c.len-next.ensures ∙ c.part-item.result.ok.0 ∙ ap length here, sum_by_more length (triangle_lists ps) i [] there);
+      lines = part_more (triangle_lists ps) i c.loop-part.next c.len-next.result c.loop-part.text.items
+          c.put_part.new.text.items _ there (c.len-next.ensures ∙ c.part-item.result.ok.0 ∙ ap length here)
+          c.in_ok-put_part.ensures c.loop-part.invariant.lines;
+      next = omega (
+        arith,
+        c.loop-part.invariant.next,
+        c.len-next.ensures ∙ c.part-item.result.ok.0 ∙ ap length here,
+        sum_by_more length (triangle_lists ps) i [] there,
+      );
     }

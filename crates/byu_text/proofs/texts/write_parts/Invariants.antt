@@ -6,6 +6,7 @@ use Rattle.byu_text.proofs.texts.write_parts.Given as goal
 
 abbrev pub invariant-loop-part : goal.invariant-loop-part
 invariant-loop-part l = record {
-  lines : l.text.items ++ part_ranges l.next (drop l.part-index (triangle_lists l.parts)) ≡ l.initial.text.items ++ part_ranges 1 (triangle_lists l.parts);
+  lines : l.text.items ++ part_ranges l.next (drop l.part-index (triangle_lists l.parts)) ≡ l.initial.text.items
+      ++ part_ranges 1 (triangle_lists l.parts);
   next : l.next ≡ 1 + sum_by length (take l.part-index (triangle_lists l.parts));
 }

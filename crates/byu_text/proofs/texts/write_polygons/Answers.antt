@@ -9,5 +9,7 @@ loop-triangle-preserved c =
     let ts = c.args.triangles.now in
     let i = c.loop-triangle.triangle-index in
     let t : List ℕ = get_or ts i [] in
-    pieces_more polygon_line c.args.text.now.items c.loop-triangle.text.items c.put_triangle.new.text.items ts i [] c.loop-triangle-test.true c.loop-triangle.invariant
-    (c.in_ok-put_triangle.ensures ∙ ap (λ (l : List ℕ). c.loop-triangle.text.items ++ polygon_line l) (three_is t (c.told-triangles i c.loop-triangle-test.true)))
+    pieces_more polygon_line c.args.text.now.items c.loop-triangle.text.items c.put_triangle.new.text.items ts i []
+    c.loop-triangle-test.true c.loop-triangle.invariant
+    (c.in_ok-put_triangle.ensures ∙ ap (λ (l : List ℕ). c.loop-triangle.text.items ++ polygon_line l)
+    (three_is t (c.told-triangles i c.loop-triangle-test.true)))

@@ -10,7 +10,9 @@ loop-points-preserved c =
     let points = c.in-Some.points.now in
     let step = c.in-Some.ensures.steps in
     record {
-      lines = vertices_more points rest left c.loop-points.text.items c.put_points.new.text.items _ step.1.0 (step.1.1 ∙ ap (λ (n : ℕ). min n (length left)) c.loop-points.invariant.two) step.1.2 c.in_ok-put_points.ensures c.loop-points.invariant.lines;
+      lines = vertices_more points rest left c.loop-points.text.items c.put_points.new.text.items _ step.1.0
+          (step.1.1 ∙ ap (λ (n : ℕ). min n (length left)) c.loop-points.invariant.two) step.1.2
+          c.in_ok-put_points.ensures c.loop-points.invariant.lines;
       two = step.0 ∙ c.loop-points.invariant.two;
       range = all_after IsInRange points rest left step.1.0 c.loop-points.invariant.range;
     }

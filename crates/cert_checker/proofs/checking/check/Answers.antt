@@ -10,4 +10,5 @@ returns-in-None-clause-least c =
     let p = c.args.pair.now in
     let k = c.args.cert.now in
     let holds : Holds p k = search rules in
-    λ _. certificate_bounds (arcs p) (rows p) (cols p) k.rows k.cols k.cost k.tiling.row k.tiling.word.items k.pi.items (arcs-periodic p) holds
+    λ _. certificate_bounds (arcs p) (rows p) (cols p) k.rows k.cols k.cost k.tiling.row k.tiling.word.items k.pi.items
+    (arcs-periodic p) holds

@@ -18,9 +18,13 @@ lost C (Err f) g = g
 pub returns-clause-ok : goal.returns-clause-ok
 returns-clause-ok c =
     let C = certificate_parts c.args.text.now in
-    back C c.parse_cert.result (c.parse_cert.ensures.given C (subst (λ (t : List ℕ). ReadsAsCertificate (kept_behind c.args.lines_before t) C) (sym c.deref.ensures.value) (c.in_ok-bytes.ensures.law c.args.lines_before)))
+    back C c.parse_cert.result (c.parse_cert.ensures.given C
+    (subst (λ (t : List ℕ). ReadsAsCertificate (kept_behind c.args.lines_before t) C) (sym c.deref.ensures.value)
+    (c.in_ok-bytes.ensures.law c.args.lines_before)))
 
 pub returns-clause-err : goal.returns-clause-err
 returns-clause-err c =
     let C = certificate_parts c.args.text.now in
-    lost C c.parse_cert.result (c.parse_cert.ensures.given C (subst (λ (t : List ℕ). ReadsAsCertificate (kept_behind c.args.lines_before t) C) (sym c.deref.ensures.value) (c.in_ok-bytes.ensures.law c.args.lines_before)))
+    lost C c.parse_cert.result (c.parse_cert.ensures.given C
+    (subst (λ (t : List ℕ). ReadsAsCertificate (kept_behind c.args.lines_before t) C) (sym c.deref.ensures.value)
+    (c.in_ok-bytes.ensures.law c.args.lines_before)))

@@ -9,20 +9,26 @@ use Rattle.cert_checker.specs.CertReading.{kept_behind, last_line, ReadsAsCertif
 use Rattle.cert_checker.proofs.TextLaws.{reads_one, one_fault, no_fault}
 use Rattle.cert_checker.proofs.parsing.parse_cert.Goals as goal
 
-given : (kept : List Kept) (last : ℕ) (C : CertParts) (r : Result CertText Fault) → IfOk r (λ t. ReadsAsCertificate kept (certificate_parts t)) → IfErr r (IsCertificateFault kept last) → ReadsAsCertificate kept C → ReadsBackCertificate C r
+given : (kept : List Kept) (last : ℕ) (C : CertParts) (r : Result CertText Fault)
+    → IfOk r (λ t. ReadsAsCertificate kept (certificate_parts t)) → IfErr r (IsCertificateFault kept last)
+    → ReadsAsCertificate kept C → ReadsBackCertificate C r
 given kept last C (Ok t) f g h = reads_one kept (certificate_parts t) C f h
 given kept last C (Err (CertForm n)) f g h = absurd (no_fault kept last n C h g)
 given kept last C (Err fault) f g h = g
 
-told : (kept : List Kept) (last n : ℕ) (r : Result CertText Fault) → IfOk r (λ t. ReadsAsCertificate kept (certificate_parts t)) → IfErr r (IsCertificateFault kept last) → HasCertificateFault kept last n → TellsCertificateFault n r
+told : (kept : List Kept) (last n : ℕ) (r : Result CertText Fault)
+    → IfOk r (λ t. ReadsAsCertificate kept (certificate_parts t)) → IfErr r (IsCertificateFault kept last)
+    → HasCertificateFault kept last n → TellsCertificateFault n r
 told kept last n (Ok t) f g h = no_fault kept last n (certificate_parts t) f h
 told kept last n (Err (CertForm line)) f g h = one_fault kept last line n g h
 told kept last n (Err fault) f g h = g
 
 pub returns-clause-given : goal.returns-clause-given
 returns-clause-given c C h =
-    given (kept_behind c.args.lines_before c.args.bytes.now) (last_line c.args.lines_before c.args.bytes.now) C c.parse_text.result c.parse_text.ensures.found c.parse_text.ensures.fault h
+    given (kept_behind c.args.lines_before c.args.bytes.now) (last_line c.args.lines_before c.args.bytes.now) C
+    c.parse_text.result c.parse_text.ensures.found c.parse_text.ensures.fault h
 
 pub returns-clause-told : goal.returns-clause-told
 returns-clause-told c n h =
-    told (kept_behind c.args.lines_before c.args.bytes.now) (last_line c.args.lines_before c.args.bytes.now) n c.parse_text.result c.parse_text.ensures.found c.parse_text.ensures.fault h
+    told (kept_behind c.args.lines_before c.args.bytes.now) (last_line c.args.lines_before c.args.bytes.now) n
+    c.parse_text.result c.parse_text.ensures.found c.parse_text.ensures.fault h

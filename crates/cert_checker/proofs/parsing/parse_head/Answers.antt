@@ -11,14 +11,17 @@ pub returns-in_default-clause-fault : goal.returns-in_default-clause-fault
 returns-in_default-clause-fault c =
     let text = c.args.bytes.now in
     let passed = c.args.lines_before in
-    subst (IsCertificateFault (kept_behind passed text) (last_line passed text)) (sym c.stopped.ensures) (stop_fault passed text 0 passed [] (none_read passed text) (c.in_default.ensures.none.0 refl) begins_none short_none)
+    subst (IsCertificateFault (kept_behind passed text) (last_line passed text)) (sym c.stopped.ensures)
+    (stop_fault passed text 0 passed [] (none_read passed text) (c.in_default.ensures.none.0 refl) begins_none
+    short_none)
 
 pub returns-in_default-read_head-clause-fault : goal.returns-in_default-read_head-clause-fault
 returns-in_default-read_head-clause-fault c =
     let text = c.args.bytes.now in
     let passed = c.args.lines_before in
     let line = c.in-Some.line in
-    line_fault passed text 0 passed line.number line.first line.end line.next [] (none_read passed text) c.in-Some.ensures.found begins_none
+    line_fault passed text 0 passed line.number line.first line.end line.next [] (none_read passed text)
+    c.in-Some.ensures.found begins_none
     (stuck_head (line_in text line.first line.end) c.in_default-read_head.ensures)
 
 pub returns-clause-ok : goal.returns-clause-ok
@@ -26,5 +29,8 @@ returns-clause-ok c =
     let text = c.args.bytes.now in
     let passed = c.args.lines_before in
     let line = c.in-Some.line in
-    let head = c.in-Some-read_head.head in
-    (c.in-Some-read_head.ensures.0, line_read passed text 0 passed line.number line.first line.end line.next [] (head_line (head_parts head)) (none_read passed text) c.in-Some.ensures.found c.in-Some-read_head.ensures.1)
+    let head = c.in-Some-read_head.head in (
+      c.in-Some-read_head.ensures.0,
+      line_read passed text 0 passed line.number line.first line.end line.next []
+          (head_line (head_parts head)) (none_read passed text) c.in-Some.ensures.found c.in-Some-read_head.ensures.1,
+    )

@@ -7,5 +7,6 @@ abbrev pub invariant-loop-row : goal.invariant-loop-row
 invariant-loop-row l = record {
   count : length l.values.items ≡ l.row * (l.head.cols + 1);
   modest : All IsModest l.values.items;
-  read : HasRead l.lines_before l.bytes l.place.at l.place.number (first_lines (head_parts l.head) l.word l.row l.values.items);
+  read : HasRead l.lines_before l.bytes l.place.at l.place.number
+      (first_lines (head_parts l.head) l.word l.row l.values.items);
 }

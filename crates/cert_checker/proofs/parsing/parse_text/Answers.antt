@@ -9,9 +9,11 @@ use Rattle.cert_checker.specs.LineSteps.{head_parts}
 use Rattle.cert_checker.proofs.Fronts.{begins_head}
 use Rattle.cert_checker.proofs.parsing.parse_text.Goals as goal
 
-first_line : (kept before rest : List Kept) (h : CertHead) → IsHead h → kept ≡ before ++ rest → AllZip Matches (lines_of before) (head_line h ∷ []) → HasFirstLine kept
+first_line : (kept before rest : List Kept) (h : CertHead) → IsHead h → kept ≡ before ++ rest
+    → AllZip Matches (lines_of before) (head_line h ∷ []) → HasFirstLine kept
 first_line kept [] rest h i e m = absurd m
-first_line kept (k ∷ []) rest h i e m = record { first = k; more = rest; split = e; begins = begins_head h i (k.1 ∷ []) m }
+first_line kept (k ∷ []) rest h i e m =
+    record { first = k; more = rest; split = e; begins = begins_head h i (k.1 ∷ []) m }
 first_line kept (k ∷ l ∷ ks) rest h i e m = absurd m.1
 
 late : {T : Type 0} (kept : List Kept) (r : Result T Fault) → HasFirstLine kept → IfErr r (IsCertMemory kept)
@@ -22,10 +24,12 @@ pub returns-in_err-word-clause-memory : goal.returns-in_err-word-clause-memory
 returns-in_err-word-clause-memory c =
     let kept = kept_behind c.args.lines_before c.args.bytes.now in
     let read = c.in_ok-head.ensures.ok.1 in
-    late kept c.from_residual-in_err-word.result (first_line kept read.before _ (head_parts c.in_ok-head.head) c.in_ok-head.ensures.ok.0 read.split read.match)
+    late kept c.from_residual-in_err-word.result
+    (first_line kept read.before _ (head_parts c.in_ok-head.head) c.in_ok-head.ensures.ok.0 read.split read.match)
 
 pub returns-in_err-pi-clause-memory : goal.returns-in_err-pi-clause-memory
 returns-in_err-pi-clause-memory c =
     let kept = kept_behind c.args.lines_before c.args.bytes.now in
     let read = c.in_ok-head.ensures.ok.1 in
-    late kept c.from_residual-in_err-pi.result (first_line kept read.before _ (head_parts c.in_ok-head.head) c.in_ok-head.ensures.ok.0 read.split read.match)
+    late kept c.from_residual-in_err-pi.result
+    (first_line kept read.before _ (head_parts c.in_ok-head.head) c.in_ok-head.ensures.ok.0 read.split read.match)

@@ -13,7 +13,10 @@ returns c =
     let n1 = c.put_head.new.out.items in
     let n2 = c.put_word.new.out.items in
     let n3 = c.put_rows.new.out.items in
-    let e2 : n2 ≡ n1 ++ line_text (word_line C.word) = c.in_ok-put_word.ensures ∙ ap (λ (w : List Step). n1 ++ line_text (word_line w)) c.deref.ensures.value in
+    let e2 : n2 ≡ n1 ++ line_text (word_line C.word) = c.in_ok-put_word.ensures
+    ∙ ap (λ (w : List Step). n1 ++ line_text (word_line w)) c.deref.ensures.value in
     let e3 : n3 ≡ n2 ++ flat_map line_text (map row_line (rows_in (C.head.cols + 1) (2 * C.head.rows) C.values)) =
-    c.in_ok-put_rows.ensures ∙ ap (λ (v : List ℤ). n2 ++ flat_map line_text (map row_line (rows_in (C.head.cols + 1) (2 * C.head.rows) v))) c.deref-2.ensures.value in
-    on_ok c.put.result (λ e. text_parts C c.args.out.now.items n1 n2 n3 c.put.new.out.items c.in_ok-put_head.ensures e2 e3 e) c.put.ensures
+    c.in_ok-put_rows.ensures ∙ ap (λ (v : List ℤ). n2
+    ++ flat_map line_text (map row_line (rows_in (C.head.cols + 1) (2 * C.head.rows) v))) c.deref-2.ensures.value in
+    on_ok c.put.result (λ e. text_parts C c.args.out.now.items n1 n2 n3 c.put.new.out.items c.in_ok-put_head.ensures e2
+    e3 e) c.put.ensures

@@ -12,7 +12,8 @@ returns-in_err-pairs_all-clause-fault g c =
     let fault = c.in_err-pairs_all.field-0.0 in
     let count = object_count F c.items-count.result.now c.items-count.ensures.parts in
     let several : 1 < length F.objects = omega (arith, count, c.if-count-gt1.true) in
-    err_is (OrNoMemory (AreSeveral F)) c.from_residual.result fault c.from_residual.ensures.1 (several_found F fault several c.in_err-pairs_all.ensures.fault)
+    err_is (OrNoMemory (AreSeveral F)) c.from_residual.result fault c.from_residual.ensures.1
+    (several_found F fault several c.in_err-pairs_all.ensures.fault)
 
 pub returns-then-count-gt1-clause-fault : goal.returns-then-count-gt1-clause-fault
 returns-then-count-gt1-clause-fault g c =

@@ -12,4 +12,5 @@ loop-second-preserved c first second from to ordered below =
     (λ o. c.is_apart.ensures c.if-not-is_apart.false first from to o) second below ordered
 
 pub returns : goal.returns
-returns c t first second from to ordered within = c.loop-second.invariant first second from to ordered (omega (arith, within, c.loop-second-test.false))
+returns c t first second from to ordered within =
+    c.loop-second.invariant first second from to ordered (omega (arith, within, c.loop-second-test.false))

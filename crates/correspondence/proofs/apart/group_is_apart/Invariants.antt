@@ -4,4 +4,5 @@ use Rattle.correspondence.specs.Apart.{ContoursTouch}
 use Rattle.correspondence.proofs.apart.group_is_apart.Given as goal
 
 abbrev pub invariant-loop-second : goal.invariant-loop-second
-invariant-loop-second l = (first second : ℕ) → l.group.begin ≤ first → first < l.group.end → first < second → second < l.second → ContoursTouch (map points_of l.contours) first second → ⊥
+invariant-loop-second l = (first second : ℕ) → l.group.begin ≤ first → first < l.group.end → first < second
+    → second < l.second → ContoursTouch (map points_of l.contours) first second → ⊥

@@ -9,7 +9,9 @@ use Rattle.correspondence.proofs.apart.is_apart.Goals as goal
 pub returns-then-not-meet : goal.returns-then-not-meet
 returns-then-not-meet c t first from to before touch =
     let contours = map points_of c.args.contours.now in
-    let meet = bounds_meet c.args.group.now.bounds c.bounds_at-bounds.result (contour_at contours first) (contour_at contours c.args.second) (c.requires.group.enclosed first from to) c.bounds_at-bounds.ensures touch in
+    let meet = bounds_meet c.args.group.now.bounds c.bounds_at-bounds.result (contour_at contours first)
+    (contour_at contours c.args.second) (c.requires.group.enclosed first from to) c.bounds_at-bounds.ensures touch
+    in
     untrue c.meet.result c.if-not-meet.true (c.meet.ensures.1 meet)
 
 pub loop-first-preserved : goal.loop-first-preserved
@@ -20,4 +22,6 @@ loop-first-preserved c first from below =
     (λ g s. untrue c.touch_within.result c.if-touch_within.false (c.touch_within.ensures.1 s)) first below from
 
 pub returns : goal.returns
-returns c t first from to before touch = c.loop-first.invariant first from (omega (arith, to, before, c.loop-first-test.false, c.min-first-end.ensures)) touch
+returns c t first from to before touch =
+    c.loop-first.invariant first from (omega (arith, to, before, c.loop-first-test.false, c.min-first-end.ensures))
+    touch

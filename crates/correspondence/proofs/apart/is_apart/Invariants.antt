@@ -4,4 +4,5 @@ use Rattle.correspondence.specs.Apart.{ContoursTouch}
 use Rattle.correspondence.proofs.apart.is_apart.Given as goal
 
 abbrev pub invariant-loop-first : goal.invariant-loop-first
-invariant-loop-first l = (first : ℕ) → l.group.begin ≤ first → first < l.first → ContoursTouch (map points_of l.contours) first l.second → ⊥
+invariant-loop-first l = (first : ℕ) → l.group.begin ≤ first → first < l.first
+    → ContoursTouch (map points_of l.contours) first l.second → ⊥

@@ -17,7 +17,12 @@ pub loop-begin-preserved : goal.loop-begin-preserved
 loop-begin-preserved c e f l within =
     past_block (λ k. EdgesMeet c.args.one.now k c.args.other.now f → ⊥) c.loop-begin.begin c.long_at-part.result.end
     (λ k l. c.loop-begin.invariant k f l within)
-    (λ k from below s. untrue c.block_touches.result c.if-block_touches.false (c.block_touches.ensures.all k f (omega (arith, from, c.long_at-part.ensures.begin)) below within s)) e l
+    (λ k from below s. untrue c.block_touches.result c.if-block_touches.false
+    (c.block_touches.ensures.all k f (omega (arith, from, c.long_at-part.ensures.begin)) below within s)) e l
 
 pub returns : goal.returns
-returns c = (λ t. cc, λ w. absurd (c.loop-begin.invariant w.e w.edge.f (omega (arith, w.within, c.loop-begin-test.false)) w.edge.within w.edge.meet))
+returns c = (
+  λ t. cc,
+  λ w. absurd (c.loop-begin.invariant w.e w.edge.f
+      (omega (arith, w.within, c.loop-begin-test.false)) w.edge.within w.edge.meet),
+)

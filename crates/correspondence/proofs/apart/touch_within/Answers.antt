@@ -7,4 +7,5 @@ pub returns-then-not-meet : goal.returns-then-not-meet
 returns-then-not-meet c =
     let contours = map points_of c.args.contours.now in
     apart_by_bounds c.meet.result _ _ c.if-not-meet.true c.meet.ensures
-    (bounds_meet c.args.one c.args.other (contour_at contours c.args.first) (contour_at contours c.args.second) c.requires.one c.requires.other)
+    (bounds_meet c.args.one c.args.other (contour_at contours c.args.first) (contour_at contours c.args.second)
+    c.requires.one c.requires.other)

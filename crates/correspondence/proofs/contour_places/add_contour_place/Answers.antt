@@ -14,4 +14,5 @@ returns c q =
     let m = c.args.contour_places.now in
     let none = is_none (get bytes_eq m c.args.name.now) (sym c.contains_key.ensures ∙ c.if-contains_key.false) in
     found_added (get bytes_eq m) (get bytes_eq c.insert.new.self) c.args.name.now q c.args.contour_place none
-    (c.in_ok-insert.ensures.updates.0 q ∙ ap (λ (n : List ℕ). cond (bytes_eq n q) (Some c.args.contour_place) (get bytes_eq m q)) c.copy.ensures)
+    (c.in_ok-insert.ensures.updates.0 q
+    ∙ ap (λ (n : List ℕ). cond (bytes_eq n q) (Some c.args.contour_place) (get bytes_eq m q)) c.copy.ensures)

@@ -11,5 +11,7 @@ loop-section-preserved c =
     let sections = c.args.sections.now in
     let names = map held_names sections in
     let s = c.loop-section.section in
-    let own = section_names sections s c.index-sections-section.result c.as_slice-contours.result.now c.loop-section-test.true c.as_slice-contours.ensures.value in
-    subst (Finds (get bytes_eq c.add_section.new.contour_places) names) (contour_places_more names s) (c.in_ok-add_section.ensures names (contour_places names s) own c.loop-section.invariant)
+    let own = section_names sections s c.index-sections-section.result c.as_slice-contours.result.now
+    c.loop-section-test.true c.as_slice-contours.ensures.value in
+    subst (Finds (get bytes_eq c.add_section.new.contour_places) names) (contour_places_more names s)
+    (c.in_ok-add_section.ensures names (contour_places names s) own c.loop-section.invariant)

@@ -12,5 +12,6 @@ returns-in-Overlap c =
     let high = c.args.high.now in
     IfOk-weaker c.overlap_rows.result _ _
     (λ v h links named.
-    subst (λ (r : PairRule). AreRows (table_of v.items) (length low.contours.items) (length high.contours.items) (Agree r links (held_layer low) (held_layer high))) (sym c.in-Overlap.is) h)
+    subst (λ (r : PairRule). AreRows (table_of v.items) (length low.contours.items) (length high.contours.items)
+    (Agree r links (held_layer low) (held_layer high))) (sym c.in-Overlap.is) h)
     c.overlap_rows.ensures

@@ -15,6 +15,8 @@ loop-contour-preserved c =
     let contour : Contour = c.contour-item.result in
     let P : ℕ → Type 0 = λ j. list_any (bytes_eq (get_or (map (λ (d : Contour). d.name) high) j [])) above ≡ true in
     let there = c.is_among.ensures ∙ ap (λ ns. list_any (bytes_eq contour.name) ns) c.names_above-names.ensures
-    ∙ ap (λ (n : List ℕ). list_any (bytes_eq n) above) (name_read high i contour c.loop-contour-test.true c.contour-item.is) in
+    ∙ ap (λ (n : List ℕ). list_any (bytes_eq n) above)
+    (name_read high i contour c.loop-contour-test.true c.contour-item.is) in
     subst (λ (r : List Bool). IsRow r (i + 1) P) (sym {A = List Bool} c.in_ok-push.ensures.items)
-    (row_push c.loop-contour.row.items i c.is_among.result P c.loop-contour.invariant (λ h. sym there ∙ h, λ h. there ∙ h))
+    (row_push c.loop-contour.row.items i c.is_among.result P c.loop-contour.invariant
+    (λ h. sym there ∙ h, λ h. there ∙ h))

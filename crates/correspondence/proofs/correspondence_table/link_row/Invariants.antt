@@ -5,4 +5,5 @@ use Rattle.correspondence.specs.Named.{above_of}
 use Rattle.correspondence.proofs.correspondence_table.link_row.Given as goal
 
 abbrev pub invariant-loop-contour : goal.invariant-loop-contour
-invariant-loop-contour l = IsRow l.row.items l.contour-index (λ j. list_any (bytes_eq (slice_index_or (map (λ c. c.name) l.high) j [])) (above_of l.table l.low.name) ≡ true)
+invariant-loop-contour l = IsRow l.row.items l.contour-index
+    (λ j. list_any (bytes_eq (slice_index_or (map (λ c. c.name) l.high) j [])) (above_of l.table l.low.name) ≡ true)

@@ -9,4 +9,5 @@ use Rattle.correspondence.proofs.correspondence_table.link_rows.Given as goal
 
 abbrev pub invariant-loop-contour : goal.invariant-loop-contour
 invariant-loop-contour l = (links : List LinkParts) → IsLinkTableOf l.table links
-    → AreRows (table_of l.rows.items) l.contour-index (length l.high.contours.items) (λ i j. list_any (links_names (name_in (held_layer l.low) i) (name_in (held_layer l.high) j)) links ≡ true)
+    → AreRows (table_of l.rows.items) l.contour-index (length l.high.contours.items)
+    (λ i j. list_any (links_names (name_in (held_layer l.low) i) (name_in (held_layer l.high) j)) links ≡ true)

@@ -4,4 +4,5 @@ use Rattle.correspondence.specs.Gaps.{members_of}
 use Rattle.correspondence.proofs.gaps.all_components.Given as goal
 
 abbrev pub invariant-loop-root : goal.invariant-loop-root
-invariant-loop-root l = AreBegun (cell_links (table_of l.rows)) (length l.rows) l.columns l.root (map members_of l.found.items)
+invariant-loop-root l = AreBegun (cell_links (table_of l.rows)) (length l.rows) l.columns l.root
+    (map members_of l.found.items)

@@ -14,10 +14,13 @@ loop-begin-preserved c =
     let more = c.in_ok-push.ensures.items in
     let same = length-map c.args.contours.now points_of in
     let inv = c.loop-begin.invariant in
-    let begin : group.begin ≡ length before * GROUP = omega (arith, c.at-group.ensures.begin, inv.reached, c.loop-begin-test.true) in
-    let longer : length c.push.new.self.items ≡ length before + 1 = ap length more ∙ length-append before (group ∷ []) in
+    let begin : group.begin ≡ length before * GROUP =
+    omega (arith, c.at-group.ensures.begin, inv.reached, c.loop-begin-test.true) in
+    let longer : length c.push.new.self.items ≡ length before + 1 = ap length more
+    ∙ length-append before (group ∷ []) in
     record {
-      each = placed_more (λ k g. IsBoundedGroup contours g) before c.push.new.self.items group more inv.each c.at-group.ensures.group;
+      each = placed_more (λ k g. IsBoundedGroup contours g) before c.push.new.self.items group more inv.each
+          c.at-group.ensures.group;
       begin = placed_more (λ k g. g.begin ≡ k * GROUP) before c.push.new.self.items group more inv.begin begin;
       reached = omega (arith, c.at-group.ensures.group.whole, same, begin, longer);
     }

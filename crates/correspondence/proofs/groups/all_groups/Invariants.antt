@@ -8,7 +8,8 @@ use Rattle.correspondence.proofs.groups.all_groups.Given as goal
 
 abbrev pub invariant-loop-begin : goal.invariant-loop-begin
 invariant-loop-begin l = record {
-  each : (k : ℕ) (d : Group) → k < length l.groups.items → IsBoundedGroup (map points_of l.contours) (slice_index_or l.groups.items k d);
+  each : (k : ℕ) (d : Group) → k < length l.groups.items
+      → IsBoundedGroup (map points_of l.contours) (slice_index_or l.groups.items k d);
   begin : (k : ℕ) (d : Group) → k < length l.groups.items → (slice_index_or l.groups.items k d).begin ≡ k * GROUP;
   reached : l.begin ≡ min (length l.contours) (length l.groups.items * GROUP);
 }

@@ -14,5 +14,8 @@ returns c links h =
     let names = c.in_ok-names.names in
     named_more (get bytes_eq m) (get bytes_eq c.insert.new.self) l names links
     (λ q.
-    c.in_ok-insert.ensures.updates.0 q ∙ ap (λ (n : List ℕ). cond (bytes_eq n q) (Some names) (get bytes_eq left q)) c.copy.ensures ∙ ap (cond (bytes_eq l.below q) (Some names)) (c.swap_remove.ensures.updates.0 q))
-    (c.in_ok-names.ensures ∙ ap (λ (o : Option (Vec (List ℕ) Global)). names_above o ++ l.above ∷ []) c.swap_remove.ensures.value) h
+    c.in_ok-insert.ensures.updates.0 q
+    ∙ ap (λ (n : List ℕ). cond (bytes_eq n q) (Some names) (get bytes_eq left q)) c.copy.ensures
+    ∙ ap (cond (bytes_eq l.below q) (Some names)) (c.swap_remove.ensures.updates.0 q))
+    (c.in_ok-names.ensures ∙ ap (λ (o : Option (Vec (List ℕ) Global)). names_above o ++ l.above ∷ [])
+    c.swap_remove.ensures.value) h

@@ -5,4 +5,5 @@ use Rattle.correspondence.specs.Named.{names_above, AreNamedAbove}
 use Rattle.correspondence.proofs.link_table.all_above.Given as goal
 
 abbrev pub invariant-loop-link : goal.invariant-loop-link
-invariant-loop-link l = AreNamedAbove (λ q. names_above (get bytes_eq l.above q)) (map link_parts (take l.link-index l.links))
+invariant-loop-link l = AreNamedAbove (λ q. names_above (get bytes_eq l.above q))
+    (map link_parts (take l.link-index l.links))

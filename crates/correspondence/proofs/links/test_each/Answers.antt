@@ -16,13 +16,19 @@ returns-in-Some c =
     let links = c.links-links.result.now in
     let i = c.loop-link.link-index in
     let item = c.link-item.result in
-    let told = cause_told S links i item c.cause_of.result (lists_of c.args.depths.now) c.loop-link.linked_names.keys (get bytes_eq c.args.contour_places.now) c.links-links.ensures.parts c.loop-link-test.true c.link-item.is
+    let told = cause_told S links i item c.cause_of.result (lists_of c.args.depths.now) c.loop-link.linked_names.keys
+    (get bytes_eq c.args.contour_places.now) c.links-links.ensures.parts c.loop-link-test.true c.link-item.is
     c.requires.depths c.loop-link.invariant.linked_names c.requires.places c.cause_of.ensures in
     let link = sym (link_read S links i item c.links-links.ensures.parts c.loop-link-test.true c.link-item.is) in
     subst (IsLinkFault S) (sym c.fault_of.ensures) (
       i,
       record {
-        there = omega (arith, c.loop-link-test.true, ap length c.links-links.ensures.parts, length-map links link_parts);
+        there = omega (
+          arith,
+          c.loop-link-test.true,
+          ap length c.links-links.ensures.parts,
+          length-map links link_parts,
+        );
         good_before = c.loop-link.invariant.good;
         cause = sym told ∙ c.in-Some.is;
         below = ap (λ (l : LinkParts). l.below) link;
@@ -36,12 +42,16 @@ loop-link-preserved c =
     let links = c.links-links.result.now in
     let i = c.loop-link.link-index in
     let item = c.link-item.result in
-    let told = cause_told S links i item c.cause_of.result (lists_of c.args.depths.now) c.loop-link.linked_names.keys (get bytes_eq c.args.contour_places.now) c.links-links.ensures.parts c.loop-link-test.true c.link-item.is
+    let told = cause_told S links i item c.cause_of.result (lists_of c.args.depths.now) c.loop-link.linked_names.keys
+    (get bytes_eq c.args.contour_places.now) c.links-links.ensures.parts c.loop-link-test.true c.link-item.is
     c.requires.depths c.loop-link.invariant.linked_names c.requires.places c.cause_of.ensures in
     record {
       good = below_more (λ (k : ℕ). cause_of S k ≡ None) i c.loop-link.invariant.good (sym told ∙ c.in_default.is);
-      linked_names = subst (AreLinkedNames c.add_linked_names.new.linked_names.keys) (sym (links_take links i item c.loop-link-test.true c.link-item.is)) (c.in_ok-add_linked_names.ensures (map link_parts (take i links)) c.loop-link.invariant.linked_names);
+      linked_names = subst (AreLinkedNames c.add_linked_names.new.linked_names.keys)
+          (sym (links_take links i item c.loop-link-test.true c.link-item.is))
+          (c.in_ok-add_linked_names.ensures (map link_parts (take i links)) c.loop-link.invariant.linked_names);
     }
 
 pub returns : goal.returns
-returns c k l = c.loop-link.invariant.good k (omega (arith, l, ap length c.links-links.ensures.parts, length-map c.links-links.result.now link_parts))
+returns c k l = c.loop-link.invariant.good k
+    (omega (arith, l, ap length c.links-links.ensures.parts, length-map c.links-links.result.now link_parts))

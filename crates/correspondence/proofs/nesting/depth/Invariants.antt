@@ -6,4 +6,5 @@ use Rattle.correspondence.specs.Nesting.{IsDepthAmong}
 use Rattle.correspondence.proofs.nesting.depth.Given as goal
 
 abbrev pub invariant-loop-group : goal.invariant-loop-group
-invariant-loop-group l = IsDepthAmong (map points_of l.contours) l.place (min (length l.contours) (l.group-index * GROUP)) l.count
+invariant-loop-group l = IsDepthAmong (map points_of l.contours) l.place
+    (min (length l.contours) (l.group-index * GROUP)) l.count

@@ -8,5 +8,6 @@ use Rattle.correspondence.proofs.nesting.depths.Given as goal
 abbrev pub invariant-loop-place : goal.invariant-loop-place
 invariant-loop-place l = record {
   depths : l.depths.items ≡ map (depth (map points_of l.contours)) (range_with_len 0 l.place);
-  counted : (k : ℕ) → k < l.place → CountedAmong (LiesIn (map points_of l.contours) k) (length l.contours) (depth (map points_of l.contours) k);
+  counted : (k : ℕ) → k < l.place → CountedAmong (LiesIn (map points_of l.contours) k) (length l.contours)
+      (depth (map points_of l.contours) k);
 }

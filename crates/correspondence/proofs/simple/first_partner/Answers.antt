@@ -11,10 +11,14 @@ loop-second-preserved c =
     (λ a. untrue c.is_partner.result c.if-is_partner.false (c.is_partner.ensures.1 a))
 
 pub is_partner-requires-clause-begin : goal.is_partner-requires-clause-begin
-is_partner-requires-clause-begin c = subst (LiesWithin c.of_edge-bounds.result) (begin_at c.args.ring.now c.args.first c.requires.within) c.of_edge-bounds.ensures.0
+is_partner-requires-clause-begin c =
+    subst (LiesWithin c.of_edge-bounds.result) (begin_at c.args.ring.now c.args.first c.requires.within)
+    c.of_edge-bounds.ensures.0
 
 pub is_partner-requires-clause-end : goal.is_partner-requires-clause-end
-is_partner-requires-clause-end c = subst (LiesWithin c.of_edge-bounds.result) c.edge_end.ensures.value c.of_edge-bounds.ensures.1
+is_partner-requires-clause-end c =
+    subst (LiesWithin c.of_edge-bounds.result) c.edge_end.ensures.value c.of_edge-bounds.ensures.1
 
 pub returns : goal.returns
-returns c h ordered within against = c.loop-second.invariant h ordered (omega (arith, within, c.loop-second-test.false)) against
+returns c h ordered within against =
+    c.loop-second.invariant h ordered (omega (arith, within, c.loop-second-test.false)) against

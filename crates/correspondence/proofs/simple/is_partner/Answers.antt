@@ -12,6 +12,8 @@ returns-then-not-meet c =
     let f = c.args.second in
     let edge = c.of_edge-edge in
     let begin = subst (LiesWithin edge.result) (begin_at ring f c.requires.within) edge.ensures.0 in
-    let end = subst (LiesWithin edge.result) (end_at ring f c.edge_end.result c.edge_end.ensures.value) edge.ensures.1 in
+    let end = subst (LiesWithin edge.result) (end_at ring f c.edge_end.result c.edge_end.ensures.value) edge.ensures.1
+    in
     let after = subst (λ k. LiesWithin c.args.bounds (around ring k)) (add-one e) c.requires.end in
-    apart_by_bounds c.meet.result _ _ c.if-not-meet.true c.meet.ensures (λ a. against_bounds_meet c.args.bounds edge.result ring e f c.requires.begin after begin end a)
+    apart_by_bounds c.meet.result _ _ c.if-not-meet.true c.meet.ensures
+    (λ a. against_bounds_meet c.args.bounds edge.result ring e f c.requires.begin after begin end a)

@@ -10,5 +10,7 @@ invariant-loop-index l = record {
   range : l.state < 2 ^ 31;
   level : AllByRecursion (λ (p : Point). p.z ≡ l.fn.z) l.points.items;
   state : (seed n : ℕ) → l.fn.state ≡ state_after seed n → l.state ≡ state_after seed (n + l.index);
-  spots : (seed n : ℕ) → l.fn.state ≡ state_after seed n → map spot_of l.points.items ≡ map (λ t. demo_spot (state_after seed (n + t + 1)) l.fn.vertices t) (range_with_len 0 l.index);
+  spots : (seed n : ℕ) → l.fn.state ≡ state_after seed n
+      → map spot_of l.points.items ≡ map (λ t. demo_spot (state_after seed (n + t + 1)) l.fn.vertices t)
+      (range_with_len 0 l.index);
 }

@@ -20,6 +20,9 @@ loop-index-preserved c =
     record {
       range = c.section.ensures.range;
       state = made.state c.args.seed i.state;
-      parts = map_more section_parts (section c.args.seed c.args.vertices) c.loop-index.stack.items c.push.new.self.items c.in_ok-section.field-0 c.loop-index.index c.in_ok-push.ensures.items i.parts (made.parts c.args.seed i.state);
-      flat = all_more IsFlat c.loop-index.stack.items c.push.new.self.items c.in_ok-section.field-0 c.in_ok-push.ensures.items i.flat made.flat;
+      parts = map_more section_parts (section c.args.seed c.args.vertices) c.loop-index.stack.items
+          c.push.new.self.items c.in_ok-section.field-0 c.loop-index.index c.in_ok-push.ensures.items i.parts
+          (made.parts c.args.seed i.state);
+      flat = all_more IsFlat c.loop-index.stack.items c.push.new.self.items c.in_ok-section.field-0
+          c.in_ok-push.ensures.items i.flat made.flat;
     }

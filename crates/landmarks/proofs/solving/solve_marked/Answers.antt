@@ -13,9 +13,11 @@ returns-in_err-test_marks-clause-crossed c =
     let p = c.args.pair.now in
     let marks = c.args.marks.now in
     let fault : IfErr c.from_residual.result (IsFirstFaultOfMarks (rows p) (cols p) marks) = search rules in
-    IfErr-weaker c.from_residual.result (IsFirstFaultOfMarks (rows p) (cols p) marks) (λ f. (q : ℕ) → f ≡ Cross q → HaveNoTiling (rows p) (cols p) (take (q + 1) marks)) (no_tiling p marks) fault
+    IfErr-weaker c.from_residual.result (IsFirstFaultOfMarks (rows p) (cols p) marks)
+    (λ f. (q : ℕ) → f ≡ Cross q → HaveNoTiling (rows p) (cols p) (take (q + 1) marks)) (no_tiling p marks) fault
 
 pub returns-clause-only : goal.returns-clause-only
 returns-clause-only c =
     let good : AreSoundMarks (rows c.args.pair.now) (cols c.args.pair.now) c.args.marks.now = search rules in
-    λ u h. solved_marked_unique c.args.pair.now c.args.marks.now c.in_ok-solve_good.field-0 u good c.in_ok-solve_good.ensures h
+    λ u h. solved_marked_unique c.args.pair.now c.args.marks.now c.in_ok-solve_good.field-0 u good
+    c.in_ok-solve_good.ensures h

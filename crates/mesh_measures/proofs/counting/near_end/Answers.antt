@@ -8,5 +8,6 @@ use Rattle.mesh_measures.proofs.counting.near_end.Goals as goal
 pub returns-clause-past : goal.returns-clause-past
 returns-clause-past c =
     let xs = c.args.level.now in
-    let point = IsPartitionPoint-from_clause (λ (b : Boxed). int_lt b.least.x c.args.x) xs c.partition_point.result c.partition_point.ensures.partitioned (parted_lt x_of xs c.args.x c.requires) (λ a r q k. search rules) in
+    let point = IsPartitionPoint-from_clause (λ (b : Boxed). int_lt b.least.x c.args.x) xs c.partition_point.result
+    c.partition_point.ensures.partitioned (parted_lt x_of xs c.args.x c.requires) (λ a r q k. search rules) in
     λ k d from below. not_less_is _ _ (point.1 k d from below)

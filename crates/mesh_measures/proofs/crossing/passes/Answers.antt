@@ -18,9 +18,14 @@ returns-then-are_opposite c =
     let p = c.args.p in
     let q = c.args.q in
     let t = c.args.t.now in
-    let e = sym (ap₂ are_opposite (itself _ _ c.turn.ensures.value c.turn.ensures.range) (itself _ _ c.turn-2.ensures.value c.turn-2.ensures.range)) ∙ sym c.are_opposite.ensures ∙ c.if-are_opposite.true in
-    let h = three _ _ _ _ _ _ (itself _ _ c.turn-then-are_opposite.ensures.value c.turn-then-are_opposite.ensures.range) (itself _ _ c.turn-then-are_opposite-2.ensures.value c.turn-then-are_opposite-2.ensures.range) (itself _ _ c.turn-then-are_opposite-3.ensures.value c.turn-then-are_opposite-3.ensures.range) in
-    c.have_one_sign.ensures ∙ h ∙ sym (ap (λ (b : Bool). b && have_one_sign (turn p q t.a t.b) (turn p q t.b t.c) (turn p q t.c t.a)) e)
+    let e = sym (ap₂ are_opposite (itself _ _ c.turn.ensures.value c.turn.ensures.range)
+    (itself _ _ c.turn-2.ensures.value c.turn-2.ensures.range)) ∙ sym c.are_opposite.ensures
+    ∙ c.if-are_opposite.true in
+    let h = three _ _ _ _ _ _ (itself _ _ c.turn-then-are_opposite.ensures.value c.turn-then-are_opposite.ensures.range)
+    (itself _ _ c.turn-then-are_opposite-2.ensures.value c.turn-then-are_opposite-2.ensures.range)
+    (itself _ _ c.turn-then-are_opposite-3.ensures.value c.turn-then-are_opposite-3.ensures.range) in
+    c.have_one_sign.ensures ∙ h ∙ sym (ap
+    (λ (b : Bool). b && have_one_sign (turn p q t.a t.b) (turn p q t.b t.c) (turn p q t.c t.a)) e)
 
 pub returns-else-are_opposite : goal.returns-else-are_opposite
 unfolding passes
@@ -28,5 +33,8 @@ returns-else-are_opposite c =
     let p = c.args.p in
     let q = c.args.q in
     let t = c.args.t.now in
-    let e = sym (ap₂ are_opposite (itself _ _ c.turn.ensures.value c.turn.ensures.range) (itself _ _ c.turn-2.ensures.value c.turn-2.ensures.range)) ∙ sym c.are_opposite.ensures ∙ c.if-are_opposite.false in
-    c.if-are_opposite.false ∙ sym (ap (λ (b : Bool). b && have_one_sign (turn p q t.a t.b) (turn p q t.b t.c) (turn p q t.c t.a)) e)
+    let e = sym (ap₂ are_opposite (itself _ _ c.turn.ensures.value c.turn.ensures.range)
+    (itself _ _ c.turn-2.ensures.value c.turn-2.ensures.range)) ∙ sym c.are_opposite.ensures
+    ∙ c.if-are_opposite.false in
+    c.if-are_opposite.false ∙ sym (ap (λ (b : Bool).
+    b && have_one_sign (turn p q t.a t.b) (turn p q t.b t.c) (turn p q t.c t.a)) e)

@@ -18,8 +18,10 @@ returns-then-passes-2 c =
     let s = c.args.s.now in
     let t = c.args.t.now in
     elim c.if-passes.branch [
-      | then-passes w ↦ by_first c.if-passes.value (passes s.a s.b t) (passes s.b s.c t) (passes s.c s.a t) c.if-passes-2.true (sym c.passes.ensures ∙ w.if-passes.true)
-      | else-passes w ↦ by_second c.if-passes.value (passes s.a s.b t) (passes s.b s.c t) (passes s.c s.a t) c.if-passes-2.true (sym c.passes.ensures ∙ w.if-passes.false) (w.value-is ∙ w.passes-else-passes.ensures)
+      | then-passes w ↦ by_first c.if-passes.value (passes s.a s.b t) (passes s.b s.c t) (passes s.c s.a t)
+          c.if-passes-2.true (sym c.passes.ensures ∙ w.if-passes.true)
+      | else-passes w ↦ by_second c.if-passes.value (passes s.a s.b t) (passes s.b s.c t) (passes s.c s.a t)
+          c.if-passes-2.true (sym c.passes.ensures ∙ w.if-passes.false) (w.value-is ∙ w.passes-else-passes.ensures)
     ]
 
 pub returns-else-passes-2 : goal.returns-else-passes-2
@@ -28,6 +30,9 @@ returns-else-passes-2 c =
     let s = c.args.s.now in
     let t = c.args.t.now in
     elim c.if-passes.branch [
-      | then-passes w ↦ absurd (let e : true ≡ false = sym w.if-passes.true ∙ sym w.value-is ∙ c.if-passes-2.false in cc)
-      | else-passes w ↦ by_third _ c.if-passes.value (passes s.a s.b t) (passes s.b s.c t) (passes s.c s.a t) c.if-passes-2.false (sym c.passes.ensures ∙ w.if-passes.false) (w.value-is ∙ w.passes-else-passes.ensures) c.passes-else-passes-2.ensures
+      | then-passes w ↦ absurd (let e : true ≡ false = sym w.if-passes.true ∙ sym w.value-is ∙ c.if-passes-2.false in
+          cc)
+      | else-passes w ↦ by_third _ c.if-passes.value (passes s.a s.b t) (passes s.b s.c t) (passes s.c s.a t)
+          c.if-passes-2.false (sym c.passes.ensures ∙ w.if-passes.false) (w.value-is ∙ w.passes-else-passes.ensures)
+          c.passes-else-passes-2.ensures
     ]

@@ -9,7 +9,8 @@ pub count_behind-own-requires-clause-behind : goal.count_behind-own-requires-cla
 count_behind-own-requires-clause-behind c =
     let xs = c.args.sorted.now in
     let n = c.args.place in
-    subst (All (ComesAfter (get_or xs n blank))) (sym (rest_is xs (n + 1))) (behind_rest xs n blank c.requires.place c.requires.swept)
+    subst (All (ComesAfter (get_or xs n blank))) (sym (rest_is xs (n + 1)))
+    (behind_rest xs n blank c.requires.place c.requires.swept)
 
 pub count_behind-own-requires-clause-swept : goal.count_behind-own-requires-clause-swept
 count_behind-own-requires-clause-swept c =
@@ -21,5 +22,6 @@ pub count_behind-own-requires-clause-room : goal.count_behind-own-requires-claus
 count_behind-own-requires-clause-room c = λ i.
     let xs = c.args.sorted.now in
     let n = c.args.place in
-    subst (λ (ys : List Boxed). slice_index c.args.counts.now i + count_by (crosses_at (get_or xs n blank) i) ys < 2 ^ 32) (sym (rest_is xs (n + 1)))
+    subst (λ (ys : List Boxed). slice_index c.args.counts.now i
+    + count_by (crosses_at (get_or xs n blank) i) ys < 2 ^ 32) (sym (rest_is xs (n + 1)))
     (room_rest xs n blank i (slice_index c.args.counts.now i) (2 ^ 32) c.requires.place (c.requires.room i))

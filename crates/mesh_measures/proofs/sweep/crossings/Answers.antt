@@ -11,43 +11,67 @@ use Rattle.mesh_measures.proofs.Whole.{Made, as_many_sorted, places_below, tally
 use Rattle.mesh_measures.proofs.sweep.crossings.Goals as goal
 
 -- the boxes of the triangles of a part, and the same in the order of the sweep
-made : (vs : List Point) (ts : List (List ℕ)) (boxes sorted : List Boxed) → boxed_corners boxes ≡ part_corners vs ts → places boxes ≡ range_with_len 0 (length ts) → IsPermutation boxes sorted → Made (part_corners vs ts) boxes sorted
-made vs ts boxes sorted e f moved = record { corners = e; places = f ∙ ap (range_with_len 0) (sym (length-map ts (corners_of vs))); moved = moved }
+made : (vs : List Point) (ts : List (List ℕ)) (boxes sorted : List Boxed) → boxed_corners boxes ≡ part_corners vs ts
+    → places boxes ≡ range_with_len 0 (length ts) → IsPermutation boxes sorted → Made (part_corners vs ts) boxes sorted
+made vs ts boxes sorted e f moved =
+    record { corners = e; places = f ∙ ap (range_with_len 0) (sym (length-map ts (corners_of vs))); moved = moved }
 
 pub counted-requires-clause-boxed : goal.counted-requires-clause-boxed
 counted-requires-clause-boxed c =
-    subst (All IsBoxed) (sym c.deref.ensures.value) (All-permutation IsBoxed c.in_ok-boxes.field-0.items c.swept-sorted.result.items c.swept-sorted.ensures.permutation c.in_ok-boxes.ensures.boxed)
+    subst (All IsBoxed) (sym c.deref.ensures.value)
+    (All-permutation IsBoxed c.in_ok-boxes.field-0.items c.swept-sorted.result.items
+    c.swept-sorted.ensures.permutation c.in_ok-boxes.ensures.boxed)
 
 pub counted-requires-clause-places : goal.counted-requires-clause-places
 counted-requires-clause-places c =
     let part = part_corners c.args.vertices.now c.args.triangles.now in
-    let m = made c.args.vertices.now c.args.triangles.now c.in_ok-boxes.field-0.items c.swept-sorted.result.items c.in_ok-boxes.ensures.corners c.in_ok-boxes.ensures.places c.swept-sorted.ensures.permutation in
-    subst (λ (xs : List Boxed). All (λ (f : Boxed). f.place < length xs) xs) (sym c.deref.ensures.value) (places_below part _ _ m)
+    let m = made c.args.vertices.now c.args.triangles.now c.in_ok-boxes.field-0.items c.swept-sorted.result.items
+    c.in_ok-boxes.ensures.corners c.in_ok-boxes.ensures.places c.swept-sorted.ensures.permutation in
+    subst (λ (xs : List Boxed). All (λ (f : Boxed). f.place < length xs) xs) (sym c.deref.ensures.value)
+    (places_below part _ _ m)
 
 pub counted-requires-clause-few : goal.counted-requires-clause-few
 counted-requires-clause-few c =
     let part = part_corners c.args.vertices.now c.args.triangles.now in
-    let m = made c.args.vertices.now c.args.triangles.now c.in_ok-boxes.field-0.items c.swept-sorted.result.items c.in_ok-boxes.ensures.corners c.in_ok-boxes.ensures.places c.swept-sorted.ensures.permutation in
-    omega (arith, ap length c.deref.ensures.value, as_many_sorted part _ _ m, length-map c.args.triangles.now (corners_of c.args.vertices.now), c.requires.few)
+    let m = made c.args.vertices.now c.args.triangles.now c.in_ok-boxes.field-0.items c.swept-sorted.result.items
+    c.in_ok-boxes.ensures.corners c.in_ok-boxes.ensures.places c.swept-sorted.ensures.permutation in
+    omega (
+      arith,
+      ap length c.deref.ensures.value,
+      as_many_sorted part _ _ m,
+      length-map c.args.triangles.now (corners_of c.args.vertices.now),
+      c.requires.few,
+    )
 
 pub counted-requires-clause-room : goal.counted-requires-clause-room
 counted-requires-clause-room c =
     let part = part_corners c.args.vertices.now c.args.triangles.now in
-    let m = made c.args.vertices.now c.args.triangles.now c.in_ok-boxes.field-0.items c.swept-sorted.result.items c.in_ok-boxes.ensures.corners c.in_ok-boxes.ensures.places c.swept-sorted.ensures.permutation in
-    subst (λ (xs : List Boxed). (i : ℕ) → tally xs i < 4294967296) (sym c.deref.ensures.value) (tally_fits part _ _ m 4294967296 (omega (arith, length-map c.args.triangles.now (corners_of c.args.vertices.now), c.requires.few)))
+    let m = made c.args.vertices.now c.args.triangles.now c.in_ok-boxes.field-0.items c.swept-sorted.result.items
+    c.in_ok-boxes.ensures.corners c.in_ok-boxes.ensures.places c.swept-sorted.ensures.permutation in
+    subst (λ (xs : List Boxed). (i : ℕ) → tally xs i < 4294967296) (sym c.deref.ensures.value)
+    (tally_fits part _ _ m 4294967296 (omega
+    (arith, length-map c.args.triangles.now (corners_of c.args.vertices.now), c.requires.few)))
 
 pub returns-clause-counts : goal.returns-clause-counts
 returns-clause-counts c =
     let part = part_corners c.args.vertices.now c.args.triangles.now in
     let sorted = c.swept-sorted.result.items in
-    let m = made c.args.vertices.now c.args.triangles.now c.in_ok-boxes.field-0.items c.swept-sorted.result.items c.in_ok-boxes.ensures.corners c.in_ok-boxes.ensures.places c.swept-sorted.ensures.permutation in
-    both_ok c.counted.result (λ r. length r.counts.items ≡ length c.deref.result.now) (λ r. (i : ℕ) → slice_index r.counts.items i ≡ tally c.deref.result.now i) (λ r. r.counts.items ≡ crossing_counts part) c.counted.ensures.length c.counted.ensures.counts
-    (λ r same is. counts_are part _ sorted m r.counts.items (same ∙ ap length c.deref.ensures.value) (λ i. is i ∙ ap (λ (xs : List Boxed). tally xs i) c.deref.ensures.value))
+    let m = made c.args.vertices.now c.args.triangles.now c.in_ok-boxes.field-0.items c.swept-sorted.result.items
+    c.in_ok-boxes.ensures.corners c.in_ok-boxes.ensures.places c.swept-sorted.ensures.permutation in
+    both_ok c.counted.result (λ r. length r.counts.items ≡ length c.deref.result.now)
+    (λ r. (i : ℕ) → slice_index r.counts.items i ≡ tally c.deref.result.now i)
+    (λ r. r.counts.items ≡ crossing_counts part) c.counted.ensures.length c.counted.ensures.counts
+    (λ r same is. counts_are part _ sorted m r.counts.items (same ∙ ap length c.deref.ensures.value)
+    (λ i. is i ∙ ap (λ (xs : List Boxed). tally xs i) c.deref.ensures.value))
 
 pub returns-clause-pairs : goal.returns-clause-pairs
 returns-clause-pairs c =
     let part = part_corners c.args.vertices.now c.args.triangles.now in
     let sorted = c.swept-sorted.result.items in
-    let m = made c.args.vertices.now c.args.triangles.now c.in_ok-boxes.field-0.items c.swept-sorted.result.items c.in_ok-boxes.ensures.corners c.in_ok-boxes.ensures.places c.swept-sorted.ensures.permutation in
-    both_ok c.counted.result (λ r. r.pairs ≡ crossing_pairs (boxed_corners c.deref.result.now)) (λ r. r.pairs ≡ crossing_pairs (boxed_corners c.deref.result.now)) (λ r. r.pairs ≡ crossing_pairs part) c.counted.ensures.pairs c.counted.ensures.pairs
-    (λ r is _. is ∙ ap (λ (xs : List Boxed). crossing_pairs (boxed_corners xs)) c.deref.ensures.value ∙ pairs_are part _ sorted m)
+    let m = made c.args.vertices.now c.args.triangles.now c.in_ok-boxes.field-0.items c.swept-sorted.result.items
+    c.in_ok-boxes.ensures.corners c.in_ok-boxes.ensures.places c.swept-sorted.ensures.permutation in
+    both_ok c.counted.result (λ r. r.pairs ≡ crossing_pairs (boxed_corners c.deref.result.now))
+    (λ r. r.pairs ≡ crossing_pairs (boxed_corners c.deref.result.now)) (λ r. r.pairs ≡ crossing_pairs part)
+    c.counted.ensures.pairs c.counted.ensures.pairs
+    (λ r is _. is ∙ ap (λ (xs : List Boxed). crossing_pairs (boxed_corners xs)) c.deref.ensures.value
+    ∙ pairs_are part _ sorted m)

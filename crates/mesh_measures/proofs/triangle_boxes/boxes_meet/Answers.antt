@@ -5,10 +5,13 @@ use Rattle.mesh_measures.proofs.triangle_boxes.boxes_meet.Goals as goal
 use Rattle.mesh_measures.proofs.triangle_boxes.boxes_meet.Goals.{then-overlap, else-overlap}
 
 -- ranges passed to a call are themselves
-passed : (r : Bool) (a b c d : ℤ) → unsigned_abs a ≤ 999999 → unsigned_abs b ≤ 999999 → unsigned_abs c ≤ 999999 → unsigned_abs d ≤ 999999
-    → r ≡ overlap (to_z w32 (of_z w32 a)) (to_z w32 (of_z w32 b)) (to_z w32 (of_z w32 c)) (to_z w32 (of_z w32 d)) → r ≡ overlap a b c d
+passed : (r : Bool) (a b c d : ℤ) → unsigned_abs a ≤ 999999 → unsigned_abs b ≤ 999999 → unsigned_abs c ≤ 999999
+    → unsigned_abs d ≤ 999999
+    → r ≡ overlap (to_z w32 (of_z w32 a)) (to_z w32 (of_z w32 b)) (to_z w32 (of_z w32 c)) (to_z w32 (of_z w32 d))
+    → r ≡ overlap a b c d
 passed r a b c d h k l m e =
-    e ∙ ap₂ (λ (x y : ℤ). overlap x y (to_z w32 (of_z w32 c)) (to_z w32 (of_z w32 d))) (passed_i32 a h) (passed_i32 b k) ∙ ap₂ (λ (x y : ℤ). overlap a b x y) (passed_i32 c l) (passed_i32 d m)
+    e ∙ ap₂ (λ (x y : ℤ). overlap x y (to_z w32 (of_z w32 c)) (to_z w32 (of_z w32 d))) (passed_i32 a h) (passed_i32 b k)
+    ∙ ap₂ (λ (x y : ℤ). overlap a b x y) (passed_i32 c l) (passed_i32 d m)
 
 pub returns-then-overlap-2 : goal.returns-then-overlap-2
 returns-then-overlap-2 c =
@@ -24,10 +27,13 @@ returns-then-overlap-2 c =
     let first = passed _ s.least.y s.greatest.y t.least.y t.greatest.y sl.y sg.y tl.y tg.y c.overlap.ensures in
     let both : c.if-overlap.value ≡ (y && z) =
     elim c.if-overlap.branch [
-      | then-overlap w ↦ w.value-is ∙ passed _ s.least.z s.greatest.z t.least.z t.greatest.z sl.z sg.z tl.z tg.z w.overlap-then-overlap.ensures ∙ sym (ap (λ (b : Bool). b && z) (sym first ∙ w.if-overlap.true))
-      | else-overlap w ↦ w.value-is ∙ w.if-overlap.false ∙ sym (ap (λ (b : Bool). b && z) (sym first ∙ w.if-overlap.false))
+      | then-overlap w ↦ w.value-is ∙ passed _ s.least.z s.greatest.z t.least.z t.greatest.z sl.z sg.z tl.z tg.z
+          w.overlap-then-overlap.ensures ∙ sym (ap (λ (b : Bool). b && z) (sym first ∙ w.if-overlap.true))
+      | else-overlap w ↦ w.value-is ∙ w.if-overlap.false
+          ∙ sym (ap (λ (b : Bool). b && z) (sym first ∙ w.if-overlap.false))
     ] in
-    passed _ s.least.x s.greatest.x t.least.x t.greatest.x sl.x sg.x tl.x tg.x c.overlap-then-overlap-2.ensures ∙ sym (ap (λ (b : Bool). b && x) (sym both ∙ c.if-overlap-2.true))
+    passed _ s.least.x s.greatest.x t.least.x t.greatest.x sl.x sg.x tl.x tg.x c.overlap-then-overlap-2.ensures
+    ∙ sym (ap (λ (b : Bool). b && x) (sym both ∙ c.if-overlap-2.true))
 
 pub returns-else-overlap-2 : goal.returns-else-overlap-2
 returns-else-overlap-2 c =
@@ -43,7 +49,9 @@ returns-else-overlap-2 c =
     let first = passed _ s.least.y s.greatest.y t.least.y t.greatest.y sl.y sg.y tl.y tg.y c.overlap.ensures in
     let both : c.if-overlap.value ≡ (y && z) =
     elim c.if-overlap.branch [
-      | then-overlap w ↦ w.value-is ∙ passed _ s.least.z s.greatest.z t.least.z t.greatest.z sl.z sg.z tl.z tg.z w.overlap-then-overlap.ensures ∙ sym (ap (λ (b : Bool). b && z) (sym first ∙ w.if-overlap.true))
-      | else-overlap w ↦ w.value-is ∙ w.if-overlap.false ∙ sym (ap (λ (b : Bool). b && z) (sym first ∙ w.if-overlap.false))
+      | then-overlap w ↦ w.value-is ∙ passed _ s.least.z s.greatest.z t.least.z t.greatest.z sl.z sg.z tl.z tg.z
+          w.overlap-then-overlap.ensures ∙ sym (ap (λ (b : Bool). b && z) (sym first ∙ w.if-overlap.true))
+      | else-overlap w ↦ w.value-is ∙ w.if-overlap.false
+          ∙ sym (ap (λ (b : Bool). b && z) (sym first ∙ w.if-overlap.false))
     ] in
     c.if-overlap-2.false ∙ sym (ap (λ (b : Bool). b && x) (sym both ∙ c.if-overlap-2.false))

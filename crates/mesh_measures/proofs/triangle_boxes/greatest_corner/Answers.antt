@@ -3,7 +3,8 @@ use Rattle.std.proofs.lemmas.Int.{ints}
 use Rattle.mesh_measures.proofs.triangle_boxes.greatest_corner.Goals as goal
 
 -- the greatest of three, as it is passed on
-under : (r x : ℤ) → unsigned_abs r ≤ 999999 → unsigned_abs x ≤ 999999 → to_z w32 (of_z w32 x) ≤ℤ r → x ≤ℤ to_z w32 (of_z w32 r)
+under : (r x : ℤ) → unsigned_abs r ≤ 999999 → unsigned_abs x ≤ 999999 → to_z w32 (of_z w32 x) ≤ℤ r
+    → x ≤ℤ to_z w32 (of_z w32 r)
 under r x h k l = omega (arith, ints)
 
 pub returns-clause-a : goal.returns-clause-a

@@ -5,4 +5,5 @@ use Rattle.mesh_measures.proofs.turning.turn.Goals as goal
 
 pub returns-clause-value : goal.returns-clause-value
 unfolding turn
-returns-clause-value c = passed c.tetrahedron_volume.result (omega (arith, c.tetrahedron_volume.ensures.range)) ∙ c.tetrahedron_volume.ensures.value
+returns-clause-value c = passed c.tetrahedron_volume.result (omega (arith, c.tetrahedron_volume.ensures.range))
+    ∙ c.tetrahedron_volume.ensures.value

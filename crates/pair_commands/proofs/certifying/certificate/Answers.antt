@@ -10,5 +10,6 @@ pub returns-clause-lawful : goal.returns-clause-lawful
 returns-clause-lawful c =
     let p = c.args.pair.now in
     let values = c.in_ok-pi.pi.items in
-    let lawful = lawful_certificate c.args.number p c.args.solved values c.requires.some c.requires.few c.low.ensures.strip c.in_ok-pi.ensures.certifies in
+    let lawful = lawful_certificate c.args.number p c.args.solved values c.requires.some c.requires.few
+    c.low.ensures.strip c.in_ok-pi.ensures.certifies in
     subst IsLawfulCertificate (sym (returns-clause-parts c)) lawful

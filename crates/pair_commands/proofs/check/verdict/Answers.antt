@@ -23,7 +23,8 @@ pub returns-in_err-front-clause-reply : goal.returns-in_err-front-clause-reply
 returns-in_err-front-clause-reply c n =
     let input = c.args.input.now in
     let fault = c.in_err-front.field-0.0 in
-    failed (HasFileFault Two (kept_lines input)) (IsFront input) (λ f. verdict (length (lines input)) f.0 f.1) n n c.from_residual.result fault c.from_residual.ensures.1
+    failed (HasFileFault Two (kept_lines input)) (IsFront input) (λ f. verdict (length (lines input)) f.0 f.1) n n
+    c.from_residual.result fault c.from_residual.ensures.1
     (front_fault input fault c.in_err-front.ensures.fault) (inr refl) (omega arith)
 
 pub returns-in_err-pairs-clause-reply : goal.returns-in_err-pairs-clause-reply
@@ -35,7 +36,9 @@ returns-in_err-pairs-clause-reply c n =
     let tail = kept_from (f.lines + 1) (lines (drop f.used input)) in
     let out = c.from_residual-in_err-pairs in
     with_front (verdict last) input n n out.result f c.in_ok-front.ensures.found
-    (failed (IsFoundIn F) (AreNumbered F) (λ ps. on_cert last tail (λ t. on_pair ps t.pair (λ p. TellsVerdict p.strip t))) n n out.result c.in_err-pairs.field-0.0 out.ensures.1 c.in_err-pairs.ensures.fault (inr refl) (omega arith))
+    (failed (IsFoundIn F) (AreNumbered F)
+    (λ ps. on_cert last tail (λ t. on_pair ps t.pair (λ p. TellsVerdict p.strip t))) n n out.result
+    c.in_err-pairs.field-0.0 out.ensures.1 c.in_err-pairs.ensures.fault (inr refl) (omega arith))
 
 pub returns-in_err-text-clause-reply : goal.returns-in_err-text-clause-reply
 returns-in_err-text-clause-reply c n =
@@ -49,8 +52,12 @@ returns-in_err-text-clause-reply c n =
     let fault = c.in_err-text.field-0.0 in
     let bad = cert_fault input f.used f.lines fault c.in_ok-front.ensures.found.used c.in_err-text.ensures.fault in
     with_front (verdict last) input n n out.result f c.in_ok-front.ensures.found
-    (went_on (IsFoundIn F) (AreNumbered F) (λ ps. on_cert last tail (λ t. on_pair ps t.pair (λ p. TellsVerdict p.strip t))) n n out.result ps c.in_ok-pairs.ensures.pairs
-    (failed (IsCertFault tail last) (λ t. ReadsAsCertificate tail (certificate_parts t)) (λ t. on_pair ps t.pair (λ p. TellsVerdict p.strip t)) n n out.result fault out.ensures.1 (cert_told tail last fault bad) (inr refl) (omega arith)))
+    (went_on (IsFoundIn F) (AreNumbered F)
+    (λ ps. on_cert last tail (λ t. on_pair ps t.pair (λ p. TellsVerdict p.strip t))) n n out.result ps
+    c.in_ok-pairs.ensures.pairs
+    (failed (IsCertFault tail last) (λ t. ReadsAsCertificate tail (certificate_parts t))
+    (λ t. on_pair ps t.pair (λ p. TellsVerdict p.strip t)) n n out.result fault out.ensures.1
+    (cert_told tail last fault bad) (inr refl) (omega arith)))
 
 pub returns-in_err-pair-clause-reply : goal.returns-in_err-pair-clause-reply
 returns-in_err-pair-clause-reply c n =
@@ -63,11 +70,17 @@ returns-in_err-pair-clause-reply c n =
     let t = c.in_ok-text.text in
     let out = c.from_residual-in_err-pair in
     let fault = c.in_err-pair.field-0.0 in
-    let none = subst (λ (gs : List GapPair). IsNoPair (map pair_parts gs) t.pair fault) c.deref.ensures.value c.in_err-pair.ensures.fault in
+    let none = subst (λ (gs : List GapPair). IsNoPair (map pair_parts gs) t.pair fault) c.deref.ensures.value
+    c.in_err-pair.ensures.fault in
     with_front (verdict last) input n n out.result f c.in_ok-front.ensures.found
-    (went_on (IsFoundIn F) (AreNumbered F) (λ ps. on_cert last tail (λ t. on_pair ps t.pair (λ p. TellsVerdict p.strip t))) n n out.result ps c.in_ok-pairs.ensures.pairs
-    (went_on (IsCertFault tail last) (λ t. ReadsAsCertificate tail (certificate_parts t)) (λ t. on_pair ps t.pair (λ p. TellsVerdict p.strip t)) n n out.result t (cert_read input f.used f.lines (certificate_parts t) c.in_ok-text.ensures.found)
-    (failed (IsNoPair ps t.pair) (IsPairOf ps t.pair) (λ p. TellsVerdict p.strip t) n n out.result fault out.ensures.1 (inr none) (inr refl) (omega arith))))
+    (went_on (IsFoundIn F) (AreNumbered F)
+    (λ ps. on_cert last tail (λ t. on_pair ps t.pair (λ p. TellsVerdict p.strip t))) n n out.result ps
+    c.in_ok-pairs.ensures.pairs
+    (went_on (IsCertFault tail last) (λ t. ReadsAsCertificate tail (certificate_parts t))
+    (λ t. on_pair ps t.pair (λ p. TellsVerdict p.strip t)) n n out.result t
+    (cert_read input f.used f.lines (certificate_parts t) c.in_ok-text.ensures.found)
+    (failed (IsNoPair ps t.pair) (IsPairOf ps t.pair) (λ p. TellsVerdict p.strip t) n n out.result fault out.ensures.1
+    (inr none) (inr refl) (omega arith))))
 
 pub returns-clause-reply : goal.returns-clause-reply
 returns-clause-reply c n =
@@ -79,11 +92,16 @@ returns-clause-reply c n =
     let ps = map pair_parts c.in_ok-pairs.pairs.items in
     let t = c.in_ok-text.text in
     let p : PairParts = pair_parts c.in_ok-pair.pair.now in
-    let is_pair = subst (λ (gs : List GapPair). IsPairOf (map pair_parts gs) t.pair p) c.deref.ensures.value c.in_ok-pair.ensures.found in
+    let is_pair = subst (λ (gs : List GapPair). IsPairOf (map pair_parts gs) t.pair p) c.deref.ensures.value
+    c.in_ok-pair.ensures.found in
     let says = c.check-verdict.ensures in
     with_front (verdict last) input n n _ f c.in_ok-front.ensures.found
-    (went_on (IsFoundIn F) (AreNumbered F) (λ ps. on_cert last tail (λ t. on_pair ps t.pair (λ p. TellsVerdict p.strip t))) n n _ ps c.in_ok-pairs.ensures.pairs
-    (went_on (IsCertFault tail last) (λ t. ReadsAsCertificate tail (certificate_parts t)) (λ t. on_pair ps t.pair (λ p. TellsVerdict p.strip t)) n n _ t (cert_read input f.used f.lines (certificate_parts t) c.in_ok-text.ensures.found)
+    (went_on (IsFoundIn F) (AreNumbered F)
+    (λ ps. on_cert last tail (λ t. on_pair ps t.pair (λ p. TellsVerdict p.strip t))) n n _ ps
+    c.in_ok-pairs.ensures.pairs
+    (went_on (IsCertFault tail last) (λ t. ReadsAsCertificate tail (certificate_parts t))
+    (λ t. on_pair ps t.pair (λ p. TellsVerdict p.strip t)) n n _ t
+    (cert_read input f.used f.lines (certificate_parts t) c.in_ok-text.ensures.found)
     (went_on (IsNoPair ps t.pair) (IsPairOf ps t.pair) (λ p. TellsVerdict p.strip t) n n _ p is_pair
     (gives_unsolved (TellsVerdict p.strip t) n c.in_ok-line.line (record {
       verdict = c.check-verdict.result;
@@ -94,16 +112,22 @@ returns-clause-reply c n =
     })))))
 
 pub returns-in_err-front-clause-memory : goal.returns-in_err-front-clause-memory
-returns-in_err-front-clause-memory c = err_is (IsReadMemory Two c.args.input.now) c.from_residual.result c.in_err-front.field-0.0 c.from_residual.ensures.1 c.in_err-front.ensures.memory
+returns-in_err-front-clause-memory c =
+    err_is (IsReadMemory Two c.args.input.now) c.from_residual.result c.in_err-front.field-0.0 c.from_residual.ensures.1
+    c.in_err-front.ensures.memory
 
 pub returns-in_err-pairs-clause-memory : goal.returns-in_err-pairs-clause-memory
-returns-in_err-pairs-clause-memory c = at_front c.args.input.now c.in_ok-front.front c.from_residual-in_err-pairs.result c.in_ok-front.ensures.found
+returns-in_err-pairs-clause-memory c =
+    at_front c.args.input.now c.in_ok-front.front c.from_residual-in_err-pairs.result c.in_ok-front.ensures.found
 
 pub returns-in_err-text-clause-memory : goal.returns-in_err-text-clause-memory
-returns-in_err-text-clause-memory c = at_front c.args.input.now c.in_ok-front.front c.from_residual-in_err-text.result c.in_ok-front.ensures.found
+returns-in_err-text-clause-memory c =
+    at_front c.args.input.now c.in_ok-front.front c.from_residual-in_err-text.result c.in_ok-front.ensures.found
 
 pub returns-in_err-pair-clause-memory : goal.returns-in_err-pair-clause-memory
-returns-in_err-pair-clause-memory c = at_front c.args.input.now c.in_ok-front.front c.from_residual-in_err-pair.result c.in_ok-front.ensures.found
+returns-in_err-pair-clause-memory c =
+    at_front c.args.input.now c.in_ok-front.front c.from_residual-in_err-pair.result c.in_ok-front.ensures.found
 
 pub returns-in_err-line-clause-memory : goal.returns-in_err-line-clause-memory
-returns-in_err-line-clause-memory c = at_front c.args.input.now c.in_ok-front.front c.from_residual-in_err-line.result c.in_ok-front.ensures.found
+returns-in_err-line-clause-memory c =
+    at_front c.args.input.now c.in_ok-front.front c.from_residual-in_err-line.result c.in_ok-front.ensures.found

@@ -5,4 +5,5 @@ use Rattle.pair_commands.specs.Tilings.{blank_and_name}
 use Rattle.pair_commands.proofs.listing.put_names.Given as goal
 
 abbrev pub invariant-loop-place : goal.invariant-loop-place
-invariant-loop-place l = l.out.items ≡ l.fn.out.items ++ flat_map (blank_and_name (map contour_parts l.contours)) (take l.place-index l.places)
+invariant-loop-place l = l.out.items ≡ l.fn.out.items
+    ++ flat_map (blank_and_name (map contour_parts l.contours)) (take l.place-index l.places)

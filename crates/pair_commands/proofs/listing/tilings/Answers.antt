@@ -23,11 +23,18 @@ pub tilings_text-requires-clause-objects : goal.tilings_text-requires-clause-obj
 tilings_text-requires-clause-objects g c =
     let F = c.in_ok-objects.objects in
     let each = zip_length ArePairs (objects_in F) (pair_lists c.in_ok-pairs.pairs.items) c.in_ok-pairs.ensures.pairs in
-    omega (arith, each, length-map F.objects (alone F), length-map c.in_ok-pairs.pairs.items held, ap length c.deref-3.ensures.value)
+    omega (
+      arith,
+      each,
+      length-map F.objects (alone F),
+      length-map c.in_ok-pairs.pairs.items held,
+      ap length c.deref-3.ensures.value,
+    )
 
 pub returns-in_err-objects-clause-reply : goal.returns-in_err-objects-clause-reply
 returns-in_err-objects-clause-reply g c =
-    no_text tilings c.args.input.now (g.P.PairSolver.solved_pairs c.args.solver.now) c.from_residual.result c.in_err-objects.field-0.0 c.from_residual.ensures.1 c.in_err-objects.ensures.fault
+    no_text tilings c.args.input.now (g.P.PairSolver.solved_pairs c.args.solver.now) c.from_residual.result
+    c.in_err-objects.field-0.0 c.from_residual.ensures.1 c.in_err-objects.ensures.fault
 
 pub returns-in_err-pairs-clause-reply : goal.returns-in_err-pairs-clause-reply
 returns-in_err-pairs-clause-reply g c =
@@ -35,7 +42,9 @@ returns-in_err-pairs-clause-reply g c =
     let n = g.P.PairSolver.solved_pairs c.args.solver.now in
     let out = c.from_residual-in_err-pairs in
     with_text tilings c.args.input.now n n out.result F c.in_ok-objects.ensures.text
-    (failed (IsFoundIn F) (AreAllPairs F) (λ pss. on_solutions (numbered pss) (λ xs. Tells (tilings_text F pss xs) (length (numbered pss)))) n n out.result c.in_err-pairs.field-0.0 out.ensures.1 c.in_err-pairs.ensures.fault (inr refl) (omega arith))
+    (failed (IsFoundIn F) (AreAllPairs F)
+    (λ pss. on_solutions (numbered pss) (λ xs. Tells (tilings_text F pss xs) (length (numbered pss)))) n n
+    out.result c.in_err-pairs.field-0.0 out.ensures.1 c.in_err-pairs.ensures.fault (inr refl) (omega arith))
 
 pub returns-clause-reply : goal.returns-clause-reply
 returns-clause-reply g c =
@@ -47,24 +56,36 @@ returns-clause-reply g c =
     let after = g.P.PairSolver.solved_pairs c.solve_each.new.self in
     let strips : referents c.in_ok-strips.strips.items ≡ strips_in ps = search rules in
     let solved : SolvesEach (strips_in ps) xs = subst (λ (ss : List Strip). SolvesEach ss xs) strips (search rules) in
-    let count : length c.in_ok-strips.strips.items ≡ length ps = count_referents c.in_ok-strips.strips.items (strips_in ps) strips ∙ length-map ps (λ (p : PairParts). p.strip) in
+    let count : length c.in_ok-strips.strips.items ≡ length ps =
+    count_referents c.in_ok-strips.strips.items (strips_in ps) strips
+    ∙ length-map ps (λ (p : PairParts). p.strip) in
     let raised : after ≡ raised_by (length ps) before = search (rules, count) in
     with_text tilings c.args.input.now before after _ F c.in_ok-objects.ensures.text
-    (went_on (IsFoundIn F) (AreAllPairs F) (λ pss. on_solutions (numbered pss) (λ xs. Tells (tilings_text F pss xs) (length (numbered pss)))) before after _ pss c.in_ok-pairs.ensures.pairs
-    (went_on NoFault (SolvesEach (strips_in ps)) (λ xs. Tells (tilings_text F pss xs) (length ps)) before after _ xs solved
-    (tells (tilings_text F pss xs) before after (length ps) c.in_ok-text.text (search rules) raised c.solve_each.ensures.not_less)))
+    (went_on (IsFoundIn F) (AreAllPairs F)
+    (λ pss. on_solutions (numbered pss) (λ xs. Tells (tilings_text F pss xs) (length (numbered pss)))) before after
+    _ pss c.in_ok-pairs.ensures.pairs
+    (went_on NoFault (SolvesEach (strips_in ps)) (λ xs. Tells (tilings_text F pss xs) (length ps)) before after _ xs
+    solved
+    (tells (tilings_text F pss xs) before after (length ps) c.in_ok-text.text (search rules) raised
+    c.solve_each.ensures.not_less)))
 
 pub returns-in_err-objects-clause-memory : goal.returns-in_err-objects-clause-memory
-returns-in_err-objects-clause-memory g c = err_is (IsReadMemory Two c.args.input.now) c.from_residual.result c.in_err-objects.field-0.0 c.from_residual.ensures.1 c.in_err-objects.ensures.memory
+returns-in_err-objects-clause-memory g c =
+    err_is (IsReadMemory Two c.args.input.now) c.from_residual.result c.in_err-objects.field-0.0
+    c.from_residual.ensures.1 c.in_err-objects.ensures.memory
 
 pub returns-in_err-pairs-clause-memory : goal.returns-in_err-pairs-clause-memory
-returns-in_err-pairs-clause-memory g c = at_text c.args.input.now c.in_ok-objects.objects c.from_residual-in_err-pairs.result c.in_ok-objects.ensures.text
+returns-in_err-pairs-clause-memory g c =
+    at_text c.args.input.now c.in_ok-objects.objects c.from_residual-in_err-pairs.result c.in_ok-objects.ensures.text
 
 pub returns-in_err-strips-clause-memory : goal.returns-in_err-strips-clause-memory
-returns-in_err-strips-clause-memory g c = at_text c.args.input.now c.in_ok-objects.objects c.from_residual-in_err-strips.result c.in_ok-objects.ensures.text
+returns-in_err-strips-clause-memory g c =
+    at_text c.args.input.now c.in_ok-objects.objects c.from_residual-in_err-strips.result c.in_ok-objects.ensures.text
 
 pub returns-in_err-solved-clause-memory : goal.returns-in_err-solved-clause-memory
-returns-in_err-solved-clause-memory g c = at_text c.args.input.now c.in_ok-objects.objects c.from_residual-in_err-solved.result c.in_ok-objects.ensures.text
+returns-in_err-solved-clause-memory g c =
+    at_text c.args.input.now c.in_ok-objects.objects c.from_residual-in_err-solved.result c.in_ok-objects.ensures.text
 
 pub returns-in_err-text-clause-memory : goal.returns-in_err-text-clause-memory
-returns-in_err-text-clause-memory g c = at_text c.args.input.now c.in_ok-objects.objects c.from_residual-in_err-text.result c.in_ok-objects.ensures.text
+returns-in_err-text-clause-memory g c =
+    at_text c.args.input.now c.in_ok-objects.objects c.from_residual-in_err-text.result c.in_ok-objects.ensures.text

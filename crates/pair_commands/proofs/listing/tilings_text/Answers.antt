@@ -35,14 +35,21 @@ loop-i-preserved c =
     let there = object_count F items parts in
     let inside : i < length c.args.pairs.now = omega (arith, c.loop-i-test.true, there, c.requires.objects) in
     let next = lists_next c.args.pairs.now i v inside c.index-pairs-i.is in
-    let size : length c.as_slice-list.result.now ≡ length ps = ap length c.as_slice-list.ensures.value ∙ sym (length-map v.items pair_parts) in
+    let size : length c.as_slice-list.result.now ≡ length ps = ap length c.as_slice-list.ensures.value
+    ∙ sym (length-map v.items pair_parts) in
     let written =
-    subst₂ (λ (ss : List SectionParts) (qs : List PairParts). new ≡ c.put_object.new.out.items ++ pairs_text ss (count + 1) qs (drop count xs)) c.sections.ensures.parts (ap (map pair_parts) c.as_slice-list.ensures.value) c.in_ok-put_pairs.ensures in
+    subst₂ (λ (ss : List SectionParts) (qs : List PairParts). new ≡ c.put_object.new.out.items
+    ++ pairs_text ss (count + 1) qs (drop count xs)) c.sections.ensures.parts
+    (ap (map pair_parts) c.as_slice-list.ensures.value) c.in_ok-put_pairs.ensures in
     let more =
-    object_more F.version F.objects lists xs i count (object_parts o) ps c.loop-i.text.items c.put_object.new.out.items new (objects_text F.version 1 F.objects lists xs)
-    (omega (arith, c.loop-i-test.true, there)) (omega (arith, inside, length-map c.args.pairs.now held)) (part_at F items i o parts c.loop-i-test.true c.index-items-i.is) (list_at c.args.pairs.now i v inside c.index-pairs-i.is)
+    object_more F.version F.objects lists xs i count (object_parts o) ps c.loop-i.text.items c.put_object.new.out.items
+    new (objects_text F.version 1 F.objects lists xs)
+    (omega (arith, c.loop-i-test.true, there)) (omega (arith, inside, length-map c.args.pairs.now held))
+    (part_at F items i o parts c.loop-i-test.true c.index-items-i.is)
+    (list_at c.args.pairs.now i v inside c.index-pairs-i.is)
     c.loop-i.invariant.text (c.in_ok-put_object.ensures.named F.version c.version-version.ensures) written in
     record {
-      text = subst (λ (n : ℕ). new ++ objects_text F.version (count + n + 1) (drop (i + 1) F.objects) (drop (i + 1) lists) (drop (count + n) xs) ≡ objects_text F.version 1 F.objects lists xs) (sym size) more;
+      text = subst (λ (n : ℕ). new ++ objects_text F.version (count + n + 1) (drop (i + 1) F.objects)
+          (drop (i + 1) lists) (drop (count + n) xs) ≡ objects_text F.version 1 F.objects lists xs) (sym size) more;
       count = omega (arith, c.loop-i.invariant.count, next, ap length c.as_slice-list.ensures.value);
     }

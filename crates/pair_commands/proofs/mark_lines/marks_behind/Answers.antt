@@ -13,7 +13,8 @@ loop-line-init c =
       within = c.requires.at;
       counted = omega arith;
       short = omega (arith, ap length c.new-marks.ensures.items);
-      so_far = subst (λ (ms : List PairMark). MarksSoFar tail ms tail) (sym c.new-marks.ensures.items) (marks_none tail);
+      so_far = subst (λ (ms : List PairMark). MarksSoFar tail ms tail) (sym c.new-marks.ensures.items)
+          (marks_none tail);
     }
 
 pub loop-line-preserved : goal.loop-line-preserved
@@ -30,8 +31,18 @@ loop-line-preserved c =
     record {
       within = found.in_order.3;
       counted = omega (arith, found.counted.1, c.loop-line.invariant.counted);
-      short = omega (arith, ap length c.in_ok-push.ensures, length-append old (mark ∷ []), long, found.in_order.0, found.in_order.2, c.loop-line.invariant.short);
-      so_far = marks_more tail (kept_from (c.loop-line.number + 1) (lines (drop c.loop-line.from bytes))) (kept_from (line.number + 1) (lines (drop line.next bytes))) old new line.number ws mark c.loop-line.invariant.so_far
+      short = omega (
+        arith,
+        ap length c.in_ok-push.ensures,
+        length-append old (mark ∷ []),
+        long,
+        found.in_order.0,
+        found.in_order.2,
+        c.loop-line.invariant.short,
+      );
+      so_far = marks_more tail (kept_from (c.loop-line.number + 1) (lines (drop c.loop-line.from bytes)))
+          (kept_from (line.number + 1) (lines (drop line.next bytes))) old new line.number ws mark
+          c.loop-line.invariant.so_far
           found.kept c.in-Some-mark_of.ensures c.in_ok-push.ensures;
     }
 
@@ -39,12 +50,16 @@ pub returns-in_default-mark_of-clause-fault : goal.returns-in_default-mark_of-cl
 returns-in_default-mark_of-clause-fault c =
     let bytes = c.args.bytes.now in
     let line = c.in-Some.line in
-    inr (marks_fault (kept_from (c.args.passed + 1) (lines (drop c.args.at bytes))) (kept_from (c.loop-line.number + 1) (lines (drop c.loop-line.from bytes))) (kept_from (line.number + 1) (lines (drop line.next bytes))) c.loop-line.marks.items
-    line.number (words (slice_range bytes line.first line.end)) c.loop-line.invariant.so_far c.in-Some.ensures.found.kept c.in_default-mark_of.ensures)
+    inr (marks_fault (kept_from (c.args.passed + 1) (lines (drop c.args.at bytes)))
+    (kept_from (c.loop-line.number + 1) (lines (drop c.loop-line.from bytes)))
+    (kept_from (line.number + 1) (lines (drop line.next bytes))) c.loop-line.marks.items
+    line.number (words (slice_range bytes line.first line.end)) c.loop-line.invariant.so_far
+    c.in-Some.ensures.found.kept c.in_default-mark_of.ensures)
 
 pub returns-clause-numbers : goal.returns-clause-numbers
 returns-clause-numbers c =
     let bytes = c.args.bytes.now in
     let tail = kept_from (c.args.passed + 1) (lines (drop c.args.at bytes)) in
     let rest = kept_from (c.loop-line.number + 1) (lines (drop c.loop-line.from bytes)) in
-    all_numbers tail c.loop-line.marks.items (marks_end tail rest c.loop-line.marks.items c.loop-line.invariant.so_far (c.in_default.ensures.none.0 refl))
+    all_numbers tail c.loop-line.marks.items
+    (marks_end tail rest c.loop-line.marks.items c.loop-line.invariant.so_far (c.in_default.ensures.none.0 refl))

@@ -8,7 +8,8 @@ invariant-loop-line l = record {
   within : l.from ≤ length l.bytes;
   counted : l.number + l.at ≤ l.passed + l.from;
   short : 4 * length l.marks.items ≤ l.from;
-  so_far : MarksSoFar (kept_from (l.passed + 1) (lines (drop l.at l.bytes))) l.marks.items (kept_from (l.number + 1) (lines (drop l.from l.bytes)));
+  so_far : MarksSoFar (kept_from (l.passed + 1) (lines (drop l.at l.bytes))) l.marks.items
+      (kept_from (l.number + 1) (lines (drop l.from l.bytes)));
 }
 
 abbrev pub decreases-loop-line : goal.decreases-loop-line

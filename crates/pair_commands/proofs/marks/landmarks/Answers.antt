@@ -22,7 +22,9 @@ use Rattle.pair_commands.proofs.marks.landmarks.Goals as goal
 pub returns-in_err-front-clause-reply : goal.returns-in_err-front-clause-reply
 returns-in_err-front-clause-reply c count =
     let bytes = c.args.input.now in
-    failed (HasFileFault Two (kept_lines bytes)) (IsFront bytes) (λ f. landmarks f.0 f.1) count count c.from_residual.result c.in_err-front.field-0.0 c.from_residual.ensures.1 (front_fault bytes c.in_err-front.field-0.0 c.in_err-front.ensures.fault) (inr refl)
+    failed (HasFileFault Two (kept_lines bytes)) (IsFront bytes) (λ f. landmarks f.0 f.1) count count
+    c.from_residual.result c.in_err-front.field-0.0 c.from_residual.ensures.1
+    (front_fault bytes c.in_err-front.field-0.0 c.in_err-front.ensures.fault) (inr refl)
     (omega arith)
 
 pub returns-in_err-pairs-clause-reply : goal.returns-in_err-pairs-clause-reply
@@ -33,7 +35,8 @@ returns-in_err-pairs-clause-reply c count =
     let F = f.objects in
     let out = c.from_residual-in_err-pairs in
     with_front landmarks bytes count count out.result f c.in_ok-front.ensures.found
-    (failed (IsFoundIn F) (AreNumbered F) (λ ps. Then (IsFormFault tail) (AreMarks tail) (on_marks ps)) count count out.result c.in_err-pairs.field-0.0 out.ensures.1 c.in_err-pairs.ensures.fault (inr refl) (omega arith))
+    (failed (IsFoundIn F) (AreNumbered F) (λ ps. Then (IsFormFault tail) (AreMarks tail) (on_marks ps)) count count
+    out.result c.in_err-pairs.field-0.0 out.ensures.1 c.in_err-pairs.ensures.fault (inr refl) (omega arith))
 
 pub returns-in_err-marks-clause-reply : goal.returns-in_err-marks-clause-reply
 returns-in_err-marks-clause-reply c count =
@@ -44,8 +47,10 @@ returns-in_err-marks-clause-reply c count =
     let ps = map pair_parts c.in_ok-pairs.pairs.items in
     let out = c.from_residual-in_err-marks in
     with_front landmarks bytes count count out.result f c.in_ok-front.ensures.found
-    (went_on (IsFoundIn F) (AreNumbered F) (λ ps. Then (IsFormFault tail) (AreMarks tail) (on_marks ps)) count count out.result ps c.in_ok-pairs.ensures.pairs
-    (failed (IsFormFault tail) (AreMarks tail) (on_marks ps) count count out.result c.in_err-marks.field-0.0 out.ensures.1 c.in_err-marks.ensures.fault (inr refl) (omega arith)))
+    (went_on (IsFoundIn F) (AreNumbered F) (λ ps. Then (IsFormFault tail) (AreMarks tail) (on_marks ps)) count count
+    out.result ps c.in_ok-pairs.ensures.pairs
+    (failed (IsFormFault tail) (AreMarks tail) (on_marks ps) count count out.result c.in_err-marks.field-0.0
+    out.ensures.1 c.in_err-marks.ensures.fault (inr refl) (omega arith)))
 
 pub returns-in_err-groups-clause-reply : goal.returns-in_err-groups-clause-reply
 returns-in_err-groups-clause-reply c count =
@@ -58,11 +63,14 @@ returns-in_err-groups-clause-reply c count =
     let out = c.from_residual-in_err-groups in
     let fault = c.in_err-groups.field-0.0 in
     let told : OrNoMemory (IsMarkFault ps xs) fault =
-    subst₂ (λ (gs : List GapPair) (ms : List PairMark). OrNoMemory (IsMarkFault (map pair_parts gs) ms) fault) c.deref.ensures.value c.deref-2.ensures.value c.in_err-groups.ensures.fault in
+    subst₂ (λ (gs : List GapPair) (ms : List PairMark). OrNoMemory (IsMarkFault (map pair_parts gs) ms) fault)
+    c.deref.ensures.value c.deref-2.ensures.value c.in_err-groups.ensures.fault in
     with_front landmarks bytes count count out.result f c.in_ok-front.ensures.found
-    (went_on (IsFoundIn F) (AreNumbered F) (λ ps. Then (IsFormFault tail) (AreMarks tail) (on_marks ps)) count count out.result ps c.in_ok-pairs.ensures.pairs
+    (went_on (IsFoundIn F) (AreNumbered F) (λ ps. Then (IsFormFault tail) (AreMarks tail) (on_marks ps)) count count
+    out.result ps c.in_ok-pairs.ensures.pairs
     (went_on (IsFormFault tail) (AreMarks tail) (on_marks ps) count count out.result xs c.in_ok-marks.ensures.marks
-    (failed (IsMarkFault ps xs) (AreSolved ps xs) (λ ms. Tells (landmarks_text (marked_from 1 ps xs) ms) 0) count count out.result fault out.ensures.1 told (inr refl) (omega arith))))
+    (failed (IsMarkFault ps xs) (AreSolved ps xs) (λ ms. Tells (landmarks_text (marked_from 1 ps xs) ms) 0) count count
+    out.result fault out.ensures.1 told (inr refl) (omega arith))))
 
 pub returns-clause-reply : goal.returns-clause-reply
 returns-clause-reply c count =
@@ -74,22 +82,31 @@ returns-clause-reply c count =
     let xs = c.in_ok-marks.marks.items in
     let text = c.in_ok-text.text in
     let is : IsLandmarksText ps xs text.items =
-    subst₂ (λ (gs : List GapPair) (ms : List PairMark). IsLandmarksText (map pair_parts gs) ms text.items) c.deref-3.ensures.value c.deref-4.ensures.value c.in_ok-text.ensures in
+    subst₂ (λ (gs : List GapPair) (ms : List PairMark). IsLandmarksText (map pair_parts gs) ms text.items)
+    c.deref-3.ensures.value c.deref-4.ensures.value c.in_ok-text.ensures in
     with_front landmarks bytes count count _ f c.in_ok-front.ensures.found
-    (went_on (IsFoundIn F) (AreNumbered F) (λ ps. Then (IsFormFault tail) (AreMarks tail) (on_marks ps)) count count _ ps c.in_ok-pairs.ensures.pairs
-    (went_on (IsFormFault tail) (AreMarks tail) (on_marks ps) count count _ xs c.in_ok-marks.ensures.marks (text_told ps xs count text is)))
+    (went_on (IsFoundIn F) (AreNumbered F) (λ ps. Then (IsFormFault tail) (AreMarks tail) (on_marks ps)) count count _
+    ps c.in_ok-pairs.ensures.pairs
+    (went_on (IsFormFault tail) (AreMarks tail) (on_marks ps) count count _ xs c.in_ok-marks.ensures.marks
+    (text_told ps xs count text is)))
 
 pub returns-in_err-front-clause-memory : goal.returns-in_err-front-clause-memory
-returns-in_err-front-clause-memory c = err_is (IsReadMemory Two c.args.input.now) c.from_residual.result c.in_err-front.field-0.0 c.from_residual.ensures.1 c.in_err-front.ensures.memory
+returns-in_err-front-clause-memory c =
+    err_is (IsReadMemory Two c.args.input.now) c.from_residual.result c.in_err-front.field-0.0 c.from_residual.ensures.1
+    c.in_err-front.ensures.memory
 
 pub returns-in_err-pairs-clause-memory : goal.returns-in_err-pairs-clause-memory
-returns-in_err-pairs-clause-memory c = at_front c.args.input.now c.in_ok-front.front c.from_residual-in_err-pairs.result c.in_ok-front.ensures.found
+returns-in_err-pairs-clause-memory c =
+    at_front c.args.input.now c.in_ok-front.front c.from_residual-in_err-pairs.result c.in_ok-front.ensures.found
 
 pub returns-in_err-marks-clause-memory : goal.returns-in_err-marks-clause-memory
-returns-in_err-marks-clause-memory c = at_front c.args.input.now c.in_ok-front.front c.from_residual-in_err-marks.result c.in_ok-front.ensures.found
+returns-in_err-marks-clause-memory c =
+    at_front c.args.input.now c.in_ok-front.front c.from_residual-in_err-marks.result c.in_ok-front.ensures.found
 
 pub returns-in_err-groups-clause-memory : goal.returns-in_err-groups-clause-memory
-returns-in_err-groups-clause-memory c = at_front c.args.input.now c.in_ok-front.front c.from_residual-in_err-groups.result c.in_ok-front.ensures.found
+returns-in_err-groups-clause-memory c =
+    at_front c.args.input.now c.in_ok-front.front c.from_residual-in_err-groups.result c.in_ok-front.ensures.found
 
 pub returns-in_err-text-clause-memory : goal.returns-in_err-text-clause-memory
-returns-in_err-text-clause-memory c = at_front c.args.input.now c.in_ok-front.front c.from_residual-in_err-text.result c.in_ok-front.ensures.found
+returns-in_err-text-clause-memory c =
+    at_front c.args.input.now c.in_ok-front.front c.from_residual-in_err-text.result c.in_ok-front.ensures.found

@@ -7,4 +7,5 @@ use Rattle.pair_commands.proofs.marks.marks_at.Goals as goal
 pub returns : goal.returns
 returns c =
     c.deref.ensures.value ∙ ap (λ (v : Vec Mark Global). v.items) c.index-groups-place.is
-    ∙ sym (get_or-map (λ (v : Vec Mark Global). v.items) c.args.groups.now c.args.place c.index-groups-place.result [] c.requires)
+    ∙ sym (get_or-map (λ (v : Vec Mark Global). v.items) c.args.groups.now c.args.place c.index-groups-place.result []
+    c.requires)

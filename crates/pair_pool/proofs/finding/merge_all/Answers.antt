@@ -25,9 +25,11 @@ loop-found-preserved c =
     record {
       next = tt;
       finite = tt;
-      taken = taken_more each done was.items rest.items c.in-Some.found rest.len steps.0 (omega (arith, steps.1, taken.left, ap length steps.0)) was.len taken;
+      taken = taken_more each done was.items rest.items c.in-Some.found rest.len steps.0
+          (omega (arith, steps.1, taken.left, ap length steps.0)) was.len taken;
       before =
-          found_next c.args.sections.now each done was.items rest.items was.len c.loop-found.all c.in-Some.found c.merged-all.result steps.0 taken c.requires.made c.loop-found.invariant.before (λ xs ys b m e.
+          found_next c.args.sections.now each done was.items rest.items was.len c.loop-found.all c.in-Some.found
+          c.merged-all.result steps.0 taken c.requires.made c.loop-found.invariant.before (λ xs ys b m e.
           c.merged-all.ensures c.args.sections.now xs ys b m e);
     }
 
@@ -35,5 +37,7 @@ pub returns : goal.returns
 returns c =
     let done = c.loop-found.yielded in
     let rest = c.loop-found.found-iterator.rest in
-    let whole = all_taken c.args.each.items done rest.items rest.len c.in-None.ensures.steps.0 c.loop-found.invariant.taken in
-    found_all c.args.sections.now (length done) c.loop-found.all (ap length whole ∙ c.requires.made.count) c.loop-found.invariant.before
+    let whole = all_taken c.args.each.items done rest.items rest.len c.in-None.ensures.steps.0
+    c.loop-found.invariant.taken in
+    found_all c.args.sections.now (length done) c.loop-found.all (ap length whole ∙ c.requires.made.count)
+    c.loop-found.invariant.before

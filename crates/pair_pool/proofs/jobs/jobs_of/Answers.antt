@@ -11,7 +11,8 @@ work_key j = record { 0 = j.work }
 pub returns : goal.returns
 returns c =
     let jobs = c.sort_by_key.new.self.items in
-    let sorted = c.in_ok-sort_by_key.ensures.sorted work_key (always_returns_same _ (λ a r. r ≡ work_key a.0.now) _ (λ a r q called. search rules)) in
+    let sorted = c.in_ok-sort_by_key.ensures.sorted work_key
+    (always_returns_same _ (λ a r. r ≡ work_key a.0.now) _ (λ a r q called. search rules)) in
     record {
       listed = c.in_ok-jobs.jobs.items;
       all = c.in_ok-jobs.ensures;

@@ -14,7 +14,16 @@ loop-place-init g c =
       next = tt;
       finite = tt;
       taken = none_taken c.args.drawn.items rest.items rest.len gives.0 (omega (arith, gives.1));
-      slots = record { count = omega (arith, c.loop.invariant.count, c.loop-test.false, c.places-places.ensures, c.loop.auto.counter-end); each = c.loop.invariant.each };
+      slots = record {
+        count = omega (
+          arith,
+          c.loop.invariant.count,
+          c.loop-test.false,
+          c.places-places.ensures,
+          c.loop.auto.counter-end,
+        );
+        each = c.loop.invariant.each;
+      };
       full = All-nil _;
     }
 
@@ -27,12 +36,15 @@ loop-place-preserved g c =
     let steps = c.in-Some.ensures.steps in
     let v = c.loop-place.invariant in
     let one : ℕ × g.row.B-Made.Denot = (c.in-Some.place, c.in-Some.made) in
-    let at = next_right (λ d. IsMadeAt (g.B.Batch.places c.args.batch.now) (g.B.Batch.is_right c.args.batch.now) d.0 d.1) drawn done was.items rest.items one was.len steps.0 v.taken c.requires in
-    let filled = filled_more (g.B.Batch.places c.args.batch.now) (g.B.Batch.is_right c.args.batch.now) done c.loop-place.slots.items c.put.new.slots.items c.in-Some.place c.in-Some.made c.put.ensures at v.slots v.full in
+    let at = next_right (λ d. IsMadeAt (g.B.Batch.places c.args.batch.now) (g.B.Batch.is_right c.args.batch.now) d.0
+    d.1) drawn done was.items rest.items one was.len steps.0 v.taken c.requires in
+    let filled = filled_more (g.B.Batch.places c.args.batch.now) (g.B.Batch.is_right c.args.batch.now) done
+    c.loop-place.slots.items c.put.new.slots.items c.in-Some.place c.in-Some.made c.put.ensures at v.slots v.full in
     record {
       next = tt;
       finite = tt;
-      taken = taken_more drawn done was.items rest.items one rest.len steps.0 (omega (arith, steps.1, v.taken.left, ap length steps.0)) was.len v.taken;
+      taken = taken_more drawn done was.items rest.items one rest.len steps.0
+          (omega (arith, steps.1, v.taken.left, ap length steps.0)) was.len v.taken;
       slots = filled.0;
       full = filled.1;
     }
@@ -40,4 +52,6 @@ loop-place-preserved g c =
 pub returns-clause-full : goal.returns-clause-full
 returns-clause-full g c =
     let rest = c.loop-place.place-iterator.rest in
-    subst (All (λ d. IsSome (get_or c.loop-place.slots.items d.0 None))) (all_taken c.args.drawn.items c.loop-place.yielded rest.items rest.len c.in-None.ensures.steps.0 c.loop-place.invariant.taken) c.loop-place.invariant.full
+    subst (All (λ d. IsSome (get_or c.loop-place.slots.items d.0 None)))
+    (all_taken c.args.drawn.items c.loop-place.yielded rest.items rest.len c.in-None.ensures.steps.0
+    c.loop-place.invariant.taken) c.loop-place.invariant.full

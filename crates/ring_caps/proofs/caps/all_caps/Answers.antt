@@ -25,23 +25,33 @@ use Rattle.ring_caps.proofs.caps.all_caps.Goals as goal
 
 -- ---- the rings and the contours of the section
 there : (c : goal.After-deref) → c.loop-place.place < length c.in_ok-rings.rings.items
-there c = omega (arith, c.loop-place-test.true, c.in_ok-rings.ensures.count, count_is c.sections-all.result.now c.args.sections.now.sections c.sections-all.ensures.data)
+there c = omega (
+  arith,
+  c.loop-place-test.true,
+  c.in_ok-rings.ensures.count,
+  count_is c.sections-all.result.now c.args.sections.now.sections c.sections-all.ensures.data,
+)
 
 rings_are : (c : goal.After-deref) → ring_views c.deref.result.now ≡ rings_at c.args.sections.now c.loop-place.place
-rings_are c = views_at c.args.sections.now c.in_ok-rings.rings.items c.loop-place.place c.index.result.now c.deref.result.now c.in_ok-rings.ensures (there c) c.index.ensures c.deref.ensures.value
+rings_are c = views_at c.args.sections.now c.in_ok-rings.rings.items c.loop-place.place c.index.result.now
+    c.deref.result.now c.in_ok-rings.ensures (there c) c.index.ensures c.deref.ensures.value
 
 pub section_caps-requires-clause-count : goal.section_caps-requires-clause-count
 section_caps-requires-clause-count c =
     let S = c.args.sections.now in
     let s = c.loop-place.place in
-    count_at S s c.deref.result.now (rings_are c) ∙ ap length (sym (outline_at c.sections-all.result.now S s c.index-all-place.result c.sections-all.ensures.data c.loop-place-test.true c.index-all-place.is))
+    count_at S s c.deref.result.now (rings_are c)
+    ∙ ap length (sym (outline_at c.sections-all.result.now S s c.index-all-place.result c.sections-all.ensures.data
+    c.loop-place-test.true c.index-all-place.is))
 
 pub section_caps-requires-clause-joined : goal.section_caps-requires-clause-joined
 section_caps-requires-clause-joined c face =
     let S = c.args.sections.now in
     let s = c.loop-place.place in
     let places = joined_on face (map pair_parts c.args.pairs.now) s in
-    subst (λ (n : ℕ). All (λ k. k < n) places) (sym (count_at S s c.deref.result.now (rings_are c))) (All-from_recursion (λ k. k < count S s) places (places_on S (map pair_parts c.args.pairs.now) c.requires.pairs face s).1)
+    subst (λ (n : ℕ). All (λ k. k < n) places) (sym (count_at S s c.deref.result.now (rings_are c)))
+    (All-from_recursion (λ k. k < count S s) places
+    (places_on S (map pair_parts c.args.pairs.now) c.requires.pairs face s).1)
 
 pub section_caps-requires-clause-sorted : goal.section_caps-requires-clause-sorted
 section_caps-requires-clause-sorted c = pairs_sorted c.args.sections.now c.args.pairs.now c.requires.pairs
@@ -55,14 +65,20 @@ returns-in_err-more-clause-fault c =
     let count = count_is all.result.now S.sections all.ensures.data in
     let fault = c.in_err-more.field-0.0 in
     let exit = err_from_is_err_and c.from_residual-in_err-more.result c.from_residual-in_err-more.ensures.1 in
-    let short : s < length c.in_ok-rings.rings.items = omega (arith, c.loop-place-test.true, c.in_ok-rings.ensures.count, count) in
-    let rings = views_at S c.in_ok-rings.rings.items s c.index.result.now c.deref.result.now c.in_ok-rings.ensures short c.index.ensures c.deref.ensures.value in
-    let outlines = outline_at all.result.now S s c.index-all-place.result all.ensures.data c.loop-place-test.true c.index-all-place.is in
+    let short : s < length c.in_ok-rings.rings.items =
+    omega (arith, c.loop-place-test.true, c.in_ok-rings.ensures.count, count) in
+    let rings = views_at S c.in_ok-rings.rings.items s c.index.result.now c.deref.result.now c.in_ok-rings.ensures short
+    c.index.ensures c.deref.ensures.value in
+    let outlines = outline_at all.result.now S s c.index-all-place.result all.ensures.data c.loop-place-test.true
+    c.index-all-place.is in
     let sizes = ap₂ (λ (os : List (List Point)) (rs : List RingView). both_sizes s os rs ps) outlines rings in
-    err_told c.from_residual-in_err-more.result fault (OrNoMemory (IsFirstFault IsShort HasLongGroup (group_sizes S ps)))
+    err_told c.from_residual-in_err-more.result fault
+    (OrNoMemory (IsFirstFault IsShort HasLongGroup (group_sizes S ps)))
     (exit.1 ∙ ap (λ (e : Fault). Err e) exit.2)
-    (long_section (section_sizes S ps) (length S.sections) s fault (omega (arith, c.loop-place-test.true, count)) c.loop-place.invariant.short
-    (subst (λ (ys : List (ℕ × ℕ)). OrNoMemory (IsFirstFault IsShort HasLongGroup ys) fault) sizes c.in_err-more.ensures.fault))
+    (long_section (section_sizes S ps) (length S.sections) s fault (omega (arith, c.loop-place-test.true, count))
+    c.loop-place.invariant.short
+    (subst (λ (ys : List (ℕ × ℕ)). OrNoMemory (IsFirstFault IsShort HasLongGroup ys) fault) sizes
+    c.in_err-more.ensures.fault))
 
 pub loop-place-preserved : goal.loop-place-preserved
 loop-place-preserved c =
@@ -71,9 +87,12 @@ loop-place-preserved c =
     let s = c.loop-place.place in
     let all = c.sections-all in
     let count = count_is all.result.now S.sections all.ensures.data in
-    let short : s < length c.in_ok-rings.rings.items = omega (arith, c.loop-place-test.true, c.in_ok-rings.ensures.count, count) in
-    let rings = views_at S c.in_ok-rings.rings.items s c.index.result.now c.deref.result.now c.in_ok-rings.ensures short c.index.ensures c.deref.ensures.value in
-    let outlines = outline_at all.result.now S s c.index-all-place.result all.ensures.data c.loop-place-test.true c.index-all-place.is in
+    let short : s < length c.in_ok-rings.rings.items =
+    omega (arith, c.loop-place-test.true, c.in_ok-rings.ensures.count, count) in
+    let rings = views_at S c.in_ok-rings.rings.items s c.index.result.now c.deref.result.now c.in_ok-rings.ensures short
+    c.index.ensures c.deref.ensures.value in
+    let outlines = outline_at all.result.now S s c.index-all-place.result all.ensures.data c.loop-place-test.true
+    c.index-all-place.is in
     let sizes = ap₂ (λ (os : List (List Point)) (rs : List RingView). both_sizes s os rs ps) outlines rings in
     let old = c.loop-place.caps.items in
     let one = c.in_ok-more.more in
@@ -81,14 +100,20 @@ loop-place-preserved c =
     let more : new ≡ old ++ one ∷ [] = c.in_ok-add_caps.ensures in
     let made = c.in_ok-more.ensures in
     let here : AreCapsOf by_group S ps s one = record {
-      triangles = made.triangles ∙ ap₂ (λ (os : List (List Point)) (rs : List RingView). both_group_caps os rs ps s) outlines rings;
-      folded = made.folded ∙ ap₂ (λ (os : List (List Point)) (rs : List RingView). both_folded os rs ps s) outlines rings;
+      triangles = made.triangles ∙ ap₂ (λ (os : List (List Point)) (rs : List RingView). both_group_caps os rs ps s)
+          outlines rings;
+      folded = made.folded ∙ ap₂ (λ (os : List (List Point)) (rs : List RingView). both_folded os rs ps s) outlines
+          rings;
     } in
-    let last : AreCapsOf by_group S ps (length old) one = subst (λ (k : ℕ). AreCapsOf by_group S ps k one) (sym c.loop-place.invariant.count) here in
+    let last : AreCapsOf by_group S ps (length old) one =
+    subst (λ (k : ℕ). AreCapsOf by_group S ps k one) (sym c.loop-place.invariant.count) here in
     record {
       count = omega (arith, ap length more, length-append old (one ∷ []), c.loop-place.invariant.count);
-      each = subst (λ (xs : List CapList). (k : ℕ) (d : CapList) → k < length xs → AreCapsOf by_group S ps k (get_or xs k d)) (sym more) (each_more (AreCapsOf by_group S ps) old one c.loop-place.invariant.each last);
-      short = sections_short (section_sizes S ps) s c.loop-place.invariant.short (subst (λ (ys : List (ℕ × ℕ)). All IsShort ys) sizes made.short);
+      each = subst (λ (xs : List CapList). (k : ℕ) (d : CapList) → k < length xs
+          → AreCapsOf by_group S ps k (get_or xs k d)) (sym more)
+          (each_more (AreCapsOf by_group S ps) old one c.loop-place.invariant.each last);
+      short = sections_short (section_sizes S ps) s c.loop-place.invariant.short
+          (subst (λ (ys : List (ℕ × ℕ)). All IsShort ys) sizes made.short);
     }
 
 pub returns-clause-caps : goal.returns-clause-caps
@@ -101,9 +126,16 @@ returns-clause-caps c =
       rings = rings;
       are_rings = c.in_ok-rings.ensures;
       are_caps = record {
-        count = omega (arith, c.loop-place.invariant.count, c.loop-place-test.false, c.loop-place.auto.place-end, count_is all.result.now S.sections all.ensures.data);
+        count = omega (
+          arith,
+          c.loop-place.invariant.count,
+          c.loop-place-test.false,
+          c.loop-place.auto.place-end,
+          count_is all.result.now S.sections all.ensures.data,
+        );
         each = c.loop-place.invariant.each;
-        close = groups_close S (map pair_parts c.args.pairs.now) views (are_few S all.result.now all.ensures.kept all.ensures.data) c.requires.pairs;
+        close = groups_close S (map pair_parts c.args.pairs.now) views
+            (are_few S all.result.now all.ensures.kept all.ensures.data) c.requires.pairs;
       };
     }
 
@@ -111,5 +143,11 @@ pub returns-clause-short : goal.returns-clause-short
 returns-clause-short c =
     let S = c.args.sections.now in
     let ps = map pair_parts c.args.pairs.now in
-    let end : c.loop-place.place ≡ length S.sections = omega (arith, c.loop-place-test.false, c.loop-place.auto.place-end, count_is c.sections-all.result.now S.sections c.sections-all.ensures.data) in
+    let end : c.loop-place.place ≡ length S.sections =
+    omega (
+      arith,
+      c.loop-place-test.false,
+      c.loop-place.auto.place-end,
+      count_is c.sections-all.result.now S.sections c.sections-all.ensures.data,
+    ) in
     subst (λ (n : ℕ). All IsShort (flat_map (section_sizes S ps) (range_with_len 0 n))) end c.loop-place.invariant.short

@@ -9,6 +9,7 @@ use Rattle.ring_caps.proofs.caps.all_caps.Given as goal
 abbrev pub invariant-loop-place : goal.invariant-loop-place
 invariant-loop-place l = record {
   count : length l.caps.items ≡ l.place;
-  each : (s : ℕ) (d : CapList) → s < length l.caps.items → AreCapsOf by_group l.sections (map pair_parts l.pairs) s (get_or l.caps.items s d);
+  each : (s : ℕ) (d : CapList) → s < length l.caps.items
+      → AreCapsOf by_group l.sections (map pair_parts l.pairs) s (get_or l.caps.items s d);
   short : All IsShort (flat_map (section_sizes l.sections (map pair_parts l.pairs)) (range_with_len 0 l.place));
 }

@@ -26,9 +26,11 @@ returns-in_err-list-clause-fault c =
     let ps = map pair_parts c.args.pairs.now in
     let fault = c.in_err-list.field-0.0 in
     let exit = err_from_is_err_and c.from_residual-in_err-list.result c.from_residual-in_err-list.ensures.1 in
-    err_told c.from_residual-in_err-list.result fault (OrNoMemory (IsFirstFault IsShort HasLongGroup (both_sizes s outlines rings ps)))
+    err_told c.from_residual-in_err-list.result fault
+    (OrNoMemory (IsFirstFault IsShort HasLongGroup (both_sizes s outlines rings ps)))
     (exit.1 ∙ ap (λ (e : Fault). Err e) exit.2)
-    (long_below (face_sizes Below s outlines rings ps) (face_sizes Above s outlines rings ps) fault c.in_err-list.ensures.fault)
+    (long_below (face_sizes Below s outlines rings ps) (face_sizes Above s outlines rings ps) fault
+    c.in_err-list.ensures.fault)
 
 pub returns-in_err-tops-clause-fault : goal.returns-in_err-tops-clause-fault
 returns-in_err-tops-clause-fault c =
@@ -38,18 +40,26 @@ returns-in_err-tops-clause-fault c =
     let ps = map pair_parts c.args.pairs.now in
     let fault = c.in_err-tops.field-0.0 in
     let exit = err_from_is_err_and c.from_residual-in_err-tops.result c.from_residual-in_err-tops.ensures.1 in
-    err_told c.from_residual-in_err-tops.result fault (OrNoMemory (IsFirstFault IsShort HasLongGroup (both_sizes s outlines rings ps)))
+    err_told c.from_residual-in_err-tops.result fault
+    (OrNoMemory (IsFirstFault IsShort HasLongGroup (both_sizes s outlines rings ps)))
     (exit.1 ∙ ap (λ (e : Fault). Err e) exit.2)
-    (long_above (face_sizes Below s outlines rings ps) (face_sizes Above s outlines rings ps) fault c.in_ok-list.ensures.short c.in_err-tops.ensures.fault)
+    (long_above (face_sizes Below s outlines rings ps) (face_sizes Above s outlines rings ps) fault
+    c.in_ok-list.ensures.short c.in_err-tops.ensures.fault)
 
 pub append-requires : goal.append-requires
 append-requires c = omega (arith, c.in_ok-list.ensures.small, c.in_ok-tops.ensures.small)
 
 pub returns-clause-triangles : goal.returns-clause-triangles
-returns-clause-triangles c = c.in_ok-append.ensures.triangles ∙ ap₂ (λ (b t : List (List ℕ)). b ++ t) c.in_ok-list.ensures.caps.triangles c.in_ok-tops.ensures.caps.triangles
+returns-clause-triangles c = c.in_ok-append.ensures.triangles
+    ∙ ap₂ (λ (b t : List (List ℕ)). b ++ t) c.in_ok-list.ensures.caps.triangles c.in_ok-tops.ensures.caps.triangles
 
 pub returns-clause-folded : goal.returns-clause-folded
-returns-clause-folded c = omega (arith, c.in_ok-append.ensures.folded, c.in_ok-list.ensures.caps.folded, c.in_ok-tops.ensures.caps.folded)
+returns-clause-folded c = omega (
+  arith,
+  c.in_ok-append.ensures.folded,
+  c.in_ok-list.ensures.caps.folded,
+  c.in_ok-tops.ensures.caps.folded,
+)
 
 pub returns-clause-short : goal.returns-clause-short
 returns-clause-short c =
@@ -57,4 +67,5 @@ returns-clause-short c =
     let outlines = point_lists c.args.section.now in
     let rings = ring_views c.args.rings.now in
     let ps = map pair_parts c.args.pairs.now in
-    All-append IsShort (face_sizes Below s outlines rings ps) (face_sizes Above s outlines rings ps) c.in_ok-list.ensures.short c.in_ok-tops.ensures.short
+    All-append IsShort (face_sizes Below s outlines rings ps) (face_sizes Above s outlines rings ps)
+    c.in_ok-list.ensures.short c.in_ok-tops.ensures.short

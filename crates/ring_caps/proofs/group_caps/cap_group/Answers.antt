@@ -15,8 +15,10 @@ returns-clause-area c =
 pub returns-clause-numbered_area : goal.returns-clause-numbered_area
 returns-clause-numbered_area c vertices numbered =
     let rings = c.args.rings.now in
-    ap (area_of vertices) (c.in_ok-list.ensures.triangles ∙ ap (λ (r : RingView). cap_by Pass r.points r.ids) c.in_ok-ring.ensures.value)
-    ∙ group_area vertices (ring_views rings) (views rings c.requires.contours) (some_views rings c.requires.some) numbered
+    ap (area_of vertices) (c.in_ok-list.ensures.triangles
+    ∙ ap (λ (r : RingView). cap_by Pass r.points r.ids) c.in_ok-ring.ensures.value)
+    ∙ group_area vertices (ring_views rings) (views rings c.requires.contours) (some_views rings c.requires.some)
+    numbered
 
 pub returns-clause-small : goal.returns-clause-small
 returns-clause-small c =

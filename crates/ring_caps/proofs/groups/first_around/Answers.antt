@@ -10,7 +10,8 @@ loop-other-preserved c = below_more _ _ c.loop-other.invariant (sym c.is_around.
 pub returns-then-is_around : goal.returns-then-is_around
 returns-then-is_around c =
     let test : ℕ → Bool = is_around (map points_of c.args.contours.now) c.args.place in
-    sym (first_found test 0 (length c.args.contours.now) c.loop-other.other (omega arith) (omega arith) (λ i p q. c.loop-other.invariant i q) (sym c.is_around.ensures ∙ c.if-is_around.true))
+    sym (first_found test 0 (length c.args.contours.now) c.loop-other.other (omega arith) (omega arith)
+    (λ i p q. c.loop-other.invariant i q) (sym c.is_around.ensures ∙ c.if-is_around.true))
 
 pub returns : goal.returns
 returns c =

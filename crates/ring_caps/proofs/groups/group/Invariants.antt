@@ -5,4 +5,5 @@ use Rattle.ring_caps.specs.Held.{capped_by, parent_by}
 use Rattle.ring_caps.proofs.groups.group.Given as goal
 
 abbrev pub invariant-loop-place : goal.invariant-loop-place
-invariant-loop-place l = l.places.items ≡ l.head ∷ filter (joins_group (capped_by l.joined) (parent_by l.parents) l.head) (range_with_len 0 l.place)
+invariant-loop-place l = l.places.items ≡ l.head
+    ∷ filter (joins_group (capped_by l.joined) (parent_by l.parents) l.head) (range_with_len 0 l.place)

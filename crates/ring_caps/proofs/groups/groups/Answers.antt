@@ -8,4 +8,7 @@ pub loop-place-preserved : goal.loop-place-preserved
 loop-place-preserved c =
     let joined = c.args.joined.now in
     let parents = c.args.parents.now in
-    groups_more (begins (capped_by joined) (parent_by parents)) (group (capped_by joined) (parent_by parents) (length parents)) c.loop-place.place (lists c.loop-place.groups.items) (lists c.add_group.new.groups.items) c.loop-place.invariant c.in_ok-add_group.ensures
+    groups_more (begins (capped_by joined) (parent_by parents))
+    (group (capped_by joined) (parent_by parents) (length parents)) c.loop-place.place
+    (lists c.loop-place.groups.items) (lists c.add_group.new.groups.items) c.loop-place.invariant
+    c.in_ok-add_group.ensures

@@ -6,5 +6,7 @@ use Rattle.ring_caps.proofs.groups.parents.Goals as goal
 
 pub loop-place-preserved : goal.loop-place-preserved
 loop-place-preserved c =
-    c.in_ok-push.ensures.items ∙ ap₂ (λ (l : List (Option ℕ)) (o : Option ℕ). l ++ o ∷ []) c.loop-place.invariant c.parent.ensures
-    ∙ sym (map-range_with_len_more (parent (map points_of c.as_slice-contours.result.now)) 0 c.loop-place.place c.loop-place.place (omega arith))
+    c.in_ok-push.ensures.items ∙ ap₂ (λ (l : List (Option ℕ)) (o : Option ℕ). l ++ o ∷ []) c.loop-place.invariant
+    c.parent.ensures
+    ∙ sym (map-range_with_len_more (parent (map points_of c.as_slice-contours.result.now)) 0 c.loop-place.place
+    c.loop-place.place (omega arith))

@@ -34,7 +34,9 @@ loop-p-preserved c =
             there = omega arith;
           })
       | else-square_from-square w ↦ (
-          let no_less : c.square_from.result ≤ f p = none_nearer ring other c.of-extent.result p c.square_from.result c.requires.other c.of-extent.ensures.enclosed c.square_from.ensures in
+          let no_less : c.square_from.result ≤ f p =
+          none_nearer ring other c.of-extent.result p c.square_from.result c.requires.other
+          c.of-extent.ensures.enclosed c.square_from.ensures in
           record {
             place = w.place-is ∙ least_kept f p c.loop-p.place v.place (omega (arith, no_less, v.square));
             vertex = w.vertex-is ∙ v.vertex ∙ ap (λ (q : ℕ). nearest_to other (place_of ring q)) (sym w.place-is);
@@ -49,4 +51,5 @@ returns c =
     let other = c.args.other.now in
     let v = c.loop-p.invariant in
     let all : c.loop-p.p ≡ length ring = omega arith in
-    nearest_is ring other c.loop-p.square c.loop-p.place c.loop-p.vertex c.requires.ring c.requires.other (v.place ∙ ap (first_least (square_from ring other)) all) v.vertex v.square
+    nearest_is ring other c.loop-p.square c.loop-p.place c.loop-p.vertex c.requires.ring c.requires.other
+    (v.place ∙ ap (first_least (square_from ring other)) all) v.vertex v.square

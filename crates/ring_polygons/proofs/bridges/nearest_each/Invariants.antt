@@ -7,5 +7,6 @@ use Rattle.ring_polygons.proofs.bridges.nearest_each.Given as goal
 abbrev pub invariant-loop-other : goal.invariant-loop-other
 invariant-loop-other l = record {
   same : length l.nears.items ≡ l.other-index;
-  each : (c : ℕ) → c < l.other-index → IsNearest l.ring (view_at (ring_views l.others) c).points (near_at l.nears.items c);
+  each : (c : ℕ) → c < l.other-index
+      → IsNearest l.ring (view_at (ring_views l.others) c).points (near_at l.nears.items c);
 }

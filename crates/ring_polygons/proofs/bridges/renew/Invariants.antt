@@ -8,6 +8,9 @@ use Rattle.ring_polygons.proofs.bridges.renew.Given as goal
 abbrev pub invariant-loop-c : goal.invariant-loop-c
 invariant-loop-c l = record {
   same : length l.nears ≡ length l.others;
-  done : (k : ℕ) (before : List Point) → k < l.c → IsNearest before (view_at (ring_views l.others) k).points (near_at l.fn.nears k) → IsExtended before l.after l.place l.added → IsNearest l.after (view_at (ring_views l.others) k).points (near_at l.nears k);
+  done : (k : ℕ) (before : List Point) → k < l.c
+      → IsNearest before (view_at (ring_views l.others) k).points (near_at l.fn.nears k)
+      → IsExtended before l.after l.place l.added
+      → IsNearest l.after (view_at (ring_views l.others) k).points (near_at l.nears k);
   rest : (k : ℕ) → l.c ≤ k → near_at l.nears k ≡ near_at l.fn.nears k;
 }

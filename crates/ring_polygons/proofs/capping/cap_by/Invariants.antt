@@ -8,7 +8,8 @@ use Rattle.ring_polygons.proofs.capping.cap_by.Given as goal
 
 abbrev pub invariant-cutting : goal.invariant-cutting
 invariant-cutting l = record {
-  triangles : l.triangles.items ++ to_cut l.twins l.left l.points.items l.ids.items ≡ cap_by l.twins l.ring.points.items l.ring.ids.items;
+  triangles : l.triangles.items ++ to_cut l.twins l.left l.points.items l.ids.items
+      ≡ cap_by l.twins l.ring.points.items l.ring.ids.items;
   folded : l.folded + to_fold l.twins l.left l.points.items ≡ folded_by l.twins l.ring.points.items;
   same : length l.points.items ≡ length l.ids.items;
   enough : 3 ≤ length l.points.items;

@@ -14,11 +14,17 @@ returns-clause-triangles c = turned c
 pub returns-clause-left_over : goal.returns-clause-left_over
 returns-clause-left_over c =
     let ring = c.args.ring.now in
-    subst (λ (ts : List (List ℕ)). LeavesRing c.args.face ts ring.ids.items) (sym (turned c)) (face_total c.args.face ring.points.items ring.ids.items (omega (arith, ring.one_id_each, c.requires.enough)) ring.one_id_each)
+    subst (λ (ts : List (List ℕ)). LeavesRing c.args.face ts ring.ids.items) (sym (turned c))
+    (face_total c.args.face ring.points.items ring.ids.items (omega (arith, ring.one_id_each, c.requires.enough))
+    ring.one_id_each)
 
 pub returns-clause-vertices : goal.returns-clause-vertices
 returns-clause-vertices c n below =
     let ring = c.args.ring.now in
     let top = top_cap ring.points.items ring.ids.items in
-    let known = subst (λ (ts : List (List ℕ)). All (All (λ (v : ℕ). v < n)) ts) c.in_ok-list.ensures.triangles (c.in_ok-list.ensures.vertices n below) in
-    subst (All (All (λ (v : ℕ). v < n))) (sym (turned c)) (faced_all (λ (v : ℕ). v < n) c.args.face top (cap_three ring.points.items ring.ids.items (omega (arith, ring.one_id_each, c.requires.enough)) ring.one_id_each) known)
+    let known = subst (λ (ts : List (List ℕ)). All (All (λ (v : ℕ). v < n)) ts) c.in_ok-list.ensures.triangles
+    (c.in_ok-list.ensures.vertices n below) in
+    subst (All (All (λ (v : ℕ). v < n))) (sym (turned c))
+    (faced_all (λ (v : ℕ). v < n) c.args.face top
+    (cap_three ring.points.items ring.ids.items (omega (arith, ring.one_id_each, c.requires.enough))
+    ring.one_id_each) known)

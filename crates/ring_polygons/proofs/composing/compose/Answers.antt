@@ -14,15 +14,22 @@ use Rattle.ring_polygons.proofs.Joining.{few_rings, count_is, views, some_views,
 use Rattle.ring_polygons.proofs.composing.compose.Goals as goal
 
 -- memory ran out, and the composite is not too long
-memory : {X : Type 0} (r : Result X ComposeFault) (n : ℕ) → n ≤ MAX_COMPOSITE_VERTICES → IsErrAnd r (λ e. e ≡ NoMemory) → IfErr r (IsCause n)
+memory : {X : Type 0} (r : Result X ComposeFault) (n : ℕ) → n ≤ MAX_COMPOSITE_VERTICES → IsErrAnd r (λ e. e ≡ NoMemory)
+    → IfErr r (IsCause n)
 memory (Ok x) n l h = tt
 memory (Err e) n l h = subst (IsCause n) (sym h) l
 
 pub count_vertices-count-requires-clause-rings : goal.count_vertices-count-requires-clause-rings
-count_vertices-count-requires-clause-rings c = omega (arith, few_rings c.args.rings.now c.requires.contours, c.requires.few)
+count_vertices-count-requires-clause-rings c =
+    omega (arith, few_rings c.args.rings.now c.requires.contours, c.requires.few)
 
 pub overflow_cast-result : goal.overflow_cast-result
-overflow_cast-result c = omega (arith, few_rings c.args.rings.now c.requires.contours, c.requires.few, c.count_vertices-count.ensures)
+overflow_cast-result c = omega (
+  arith,
+  few_rings c.args.rings.now c.requires.contours,
+  c.requires.few,
+  c.count_vertices-count.ensures,
+)
 
 pub returns-then-count-clause-cause : goal.returns-then-count-clause-cause
 returns-then-count-clause-cause c =
@@ -31,25 +38,36 @@ returns-then-count-clause-cause c =
 
 pub returns-in_err-join_all-clause-cause : goal.returns-in_err-join_all-clause-cause
 returns-in_err-join_all-clause-cause c =
-    let n : length (composite (ring_views c.args.rings.now)).points ≤ MAX_COMPOSITE_VERTICES = omega (arith, count_is c.args.rings.now c.requires.some c.requires.contours, c.count_vertices-count.ensures) in
+    let n : length (composite (ring_views c.args.rings.now)).points ≤ MAX_COMPOSITE_VERTICES =
+    omega (arith, count_is c.args.rings.now c.requires.some c.requires.contours, c.count_vertices-count.ensures) in
     memory c.from_residual.result (length (composite (ring_views c.args.rings.now)).points) n c.from_residual.ensures.1
 
 pub returns-clause-bridges : goal.returns-clause-bridges
 returns-clause-bridges c =
     let rings = c.args.rings.now in
-    subst (IsCompositeOf (ring_views rings)) (sym c.in_ok-join_all.ensures.value) (composite_is (ring_views rings) (views rings c.requires.contours) (some_views rings c.requires.some))
+    subst (IsCompositeOf (ring_views rings)) (sym c.in_ok-join_all.ensures.value)
+    (composite_is (ring_views rings) (views rings c.requires.contours) (some_views rings c.requires.some))
 
 pub returns-clause-ring : goal.returns-clause-ring
 returns-clause-ring c =
     let n = count_is c.args.rings.now c.requires.some c.requires.contours in
     record {
       enough = c.in_ok-join_all.ensures.enough;
-      few = omega (arith, n, c.count_vertices-count.ensures, ap (λ (l : RingView). length l.points) c.in_ok-join_all.ensures.value);
+      few = omega (
+        arith,
+        n,
+        c.count_vertices-count.ensures,
+        ap (λ (l : RingView). length l.points) c.in_ok-join_all.ensures.value,
+      );
       in_range = c.in_ok-join_all.ensures.range;
     }
 
 pub returns-clause-count : goal.returns-clause-count
-returns-clause-count c = omega (arith, count_is c.args.rings.now c.requires.some c.requires.contours, ap (λ (l : RingView). length l.points) c.in_ok-join_all.ensures.value)
+returns-clause-count c = omega (
+  arith,
+  count_is c.args.rings.now c.requires.some c.requires.contours,
+  ap (λ (l : RingView). length l.points) c.in_ok-join_all.ensures.value,
+)
 
 pub returns-clause-left_over : goal.returns-clause-left_over
 returns-clause-left_over c =
@@ -57,7 +75,12 @@ returns-clause-left_over c =
     let whole = c.in_ok-join_all.field-0 in
     let same = ap (λ (l : RingView). l.ids) c.in_ok-join_all.ensures.value in
     leaves_over (whole.ids.items ∷ []) (ids_of (ring_views rings)) [] (λ f.
-    omega (arith, composite_total f (ring_views rings) (views rings c.requires.contours), ap (λ l. total f (l ∷ [])) same, ap (λ l. total (back f) (l ∷ [])) same))
+    omega (
+      arith,
+      composite_total f (ring_views rings) (views rings c.requires.contours),
+      ap (λ l. total f (l ∷ [])) same,
+      ap (λ l. total (back f) (l ∷ [])) same,
+    ))
 
 pub returns-clause-vertices : goal.returns-clause-vertices
 returns-clause-vertices c n below =

@@ -19,7 +19,8 @@ use Rattle.std.proofs.lemmas.Grind.{common_steps}
 use Rattle.ring_polygons.proofs.composing.join_all.Goals as goal
 
 -- rings without one of them
-rest_contours : (rings rest : List Ring) (i : ℕ) → i < length rings → rest ≡ remove rings i → All IsContour rings → All IsContour rest
+rest_contours : (rings rest : List Ring) (i : ℕ) → i < length rings → rest ≡ remove rings i → All IsContour rings
+    → All IsContour rest
 rest_contours rings rest i l e h = subst (All IsContour) (sym e) (λ k d b. elim (cases_lt k i) [
   | inl lt ↦ rw get_or-remove_below (h k d (omega arith))
   | inr ge ↦ rw get_or-remove_above (h (k + 1) d (omega (arith, length-remove rings i l)))
@@ -36,29 +37,50 @@ joining-init c =
     let first = c.index-rings-0.result in
     let ring = c.in_ok-ring.ring in
     let others = c.in_ok-others.others.items in
-    let contour : IsContour ring = contour_like ring first c.in_ok-ring.ensures (subst IsContour (sym c.index-rings-0.is) (c.requires.contours 0 first c.requires.some)) in
+    let contour : IsContour ring = contour_like ring first c.in_ok-ring.ensures
+    (subst IsContour (sym c.index-rings-0.is) (c.requires.contours 0 first c.requires.some)) in
     let nears = c.in_ok-nears.nears.items in
     record {
-      value = joins_all rings first ring others c.requires.some c.index-rings-0.is c.in_ok-ring.ensures c.in_ok-others.ensures.views;
+      value = joins_all rings first ring others c.requires.some c.index-rings-0.is c.in_ok-ring.ensures
+          c.in_ok-others.ensures.views;
       contours = c.in_ok-others.ensures.contours;
       range = contour.in_range;
       enough = contour.enough;
-      nearest = subst (λ (l : List Point). AreNearest l (ring_views others) nears) c.deref.ensures.value (subst (λ (l : List Ring). AreNearest c.deref.result.now (ring_views l) nears) c.deref-2.ensures.value c.in_ok-nears.ensures);
+      nearest = subst (λ (l : List Point). AreNearest l (ring_views others) nears) c.deref.ensures.value
+          (subst (λ (l : List Ring). AreNearest c.deref.result.now (ring_views l) nears) c.deref-2.ensures.value
+          c.in_ok-nears.ensures);
     }
 
 pub first_of-first-requires : goal.first_of-first-requires
-first_of-first-requires c = omega (arith, ap length c.deref-in-joining.ensures.value, c.joining.invariant.nearest.same, length-map c.joining.others.items ring_view, c.joining.others.ok.0, c.len.ensures, c.joining-test.true)
+first_of-first-requires c = omega (
+  arith,
+  ap length c.deref-in-joining.ensures.value,
+  c.joining.invariant.nearest.same,
+  length-map c.joining.others.items ring_view,
+  c.joining.others.ok.0,
+  c.len.ensures,
+  c.joining-test.true,
+)
 
 pub remove-other-requires : goal.remove-other-requires
-remove-other-requires c = omega (arith, c.first_of-first.ensures.there, ap length c.deref-in-joining.ensures.value, c.joining.invariant.nearest.same, length-map c.joining.others.items ring_view, c.joining.others.ok.0)
+remove-other-requires c = omega (
+  arith,
+  c.first_of-first.ensures.there,
+  ap length c.deref-in-joining.ensures.value,
+  c.joining.invariant.nearest.same,
+  length-map c.joining.others.items ring_view,
+  c.joining.others.ok.0,
+)
 
 pub renew-requires-clause-same : goal.renew-requires-clause-same
 renew-requires-clause-same c =
     let others = c.joining.others.items in
     let nears = c.joining.nears.items in
     let k = c.first_of-first.result in
-    let same : length nears ≡ length others = omega (arith, c.joining.invariant.nearest.same, length-map others ring_view) in
-    let there : k < length others = omega (arith, c.first_of-first.ensures.there, ap length c.deref-in-joining.ensures.value, same) in
+    let same : length nears ≡ length others =
+    omega (arith, c.joining.invariant.nearest.same, length-map others ring_view) in
+    let there : k < length others = omega
+    (arith, c.first_of-first.ensures.there, ap length c.deref-in-joining.ensures.value, same) in
     omega (
       arith,
       same,
@@ -70,12 +92,18 @@ renew-requires-clause-same c =
 
 pub joined-requires-clause-place : goal.joined-requires-clause-place
 joined-requires-clause-place c =
-    let chosen = choice c.joining.ring c.remove-other.result c.joining.others.items c.joining.nears.items c.deref-in-joining.result.now c.first_of-first.result c.remove-near.result c.joining.invariant.contours c.joining.invariant.enough c.joining.invariant.nearest c.deref-in-joining.ensures.value c.first_of-first.ensures c.remove-near.ensures.value c.remove-other.ensures.value in
+    let chosen = choice c.joining.ring c.remove-other.result c.joining.others.items c.joining.nears.items
+    c.deref-in-joining.result.now c.first_of-first.result c.remove-near.result c.joining.invariant.contours
+    c.joining.invariant.enough c.joining.invariant.nearest c.deref-in-joining.ensures.value c.first_of-first.ensures
+    c.remove-near.ensures.value c.remove-other.ensures.value in
     chosen.nearest.place
 
 pub joined-requires-clause-vertex : goal.joined-requires-clause-vertex
 joined-requires-clause-vertex c =
-    let chosen = choice c.joining.ring c.remove-other.result c.joining.others.items c.joining.nears.items c.deref-in-joining.result.now c.first_of-first.result c.remove-near.result c.joining.invariant.contours c.joining.invariant.enough c.joining.invariant.nearest c.deref-in-joining.ensures.value c.first_of-first.ensures c.remove-near.ensures.value c.remove-other.ensures.value in
+    let chosen = choice c.joining.ring c.remove-other.result c.joining.others.items c.joining.nears.items
+    c.deref-in-joining.result.now c.first_of-first.result c.remove-near.result c.joining.invariant.contours
+    c.joining.invariant.enough c.joining.invariant.nearest c.deref-in-joining.ensures.value c.first_of-first.ensures
+    c.remove-near.ensures.value c.remove-other.ensures.value in
     chosen.nearest.vertex
 
 pub renew-requires-clause-range : goal.renew-requires-clause-range
@@ -83,18 +111,32 @@ renew-requires-clause-range c =
     let ring = c.joining.ring in
     let other = c.remove-other.result in
     let near = c.remove-near.result in
-    let chosen = choice c.joining.ring c.remove-other.result c.joining.others.items c.joining.nears.items c.deref-in-joining.result.now c.first_of-first.result c.remove-near.result c.joining.invariant.contours c.joining.invariant.enough c.joining.invariant.nearest c.deref-in-joining.ensures.value c.first_of-first.ensures c.remove-near.ensures.value c.remove-other.ensures.value in
+    let chosen = choice c.joining.ring c.remove-other.result c.joining.others.items c.joining.nears.items
+    c.deref-in-joining.result.now c.first_of-first.result c.remove-near.result c.joining.invariant.contours
+    c.joining.invariant.enough c.joining.invariant.nearest c.deref-in-joining.ensures.value c.first_of-first.ensures
+    c.remove-near.ensures.value c.remove-other.ensures.value in
     let points = c.deref-in-joining-3.ensures.value ∙ ap (λ (l : RingView). l.points) c.in_ok-ring-2.ensures in
-    subst (All IsInRange) (sym points) (join_range ring.points.items other.points.items near.place near.vertex c.joining.invariant.range chosen.contour.in_range)
+    subst (All IsInRange) (sym points)
+    (join_range ring.points.items other.points.items near.place near.vertex c.joining.invariant.range
+    chosen.contour.in_range)
 
 pub renew-requires-clause-room : goal.renew-requires-clause-room
 renew-requires-clause-room c =
     let ring = c.joining.ring in
     let other = c.remove-other.result in
     let near = c.remove-near.result in
-    let chosen = choice c.joining.ring c.remove-other.result c.joining.others.items c.joining.nears.items c.deref-in-joining.result.now c.first_of-first.result c.remove-near.result c.joining.invariant.contours c.joining.invariant.enough c.joining.invariant.nearest c.deref-in-joining.ensures.value c.first_of-first.ensures c.remove-near.ensures.value c.remove-other.ensures.value in
+    let chosen = choice c.joining.ring c.remove-other.result c.joining.others.items c.joining.nears.items
+    c.deref-in-joining.result.now c.first_of-first.result c.remove-near.result c.joining.invariant.contours
+    c.joining.invariant.enough c.joining.invariant.nearest c.deref-in-joining.ensures.value c.first_of-first.ensures
+    c.remove-near.ensures.value c.remove-other.ensures.value in
     let points = c.deref-in-joining-3.ensures.value ∙ ap (λ (l : RingView). l.points) c.in_ok-ring-2.ensures in
-    omega (arith, ap length points, join-length ring.points.items other.points.items near.place near.vertex chosen.nearest.place chosen.nearest.vertex, chosen.nearest.place)
+    omega (
+      arith,
+      ap length points,
+      join-length ring.points.items other.points.items near.place near.vertex
+          chosen.nearest.place chosen.nearest.vertex,
+      chosen.nearest.place,
+    )
 
 pub renew-requires-clause-nears : goal.renew-requires-clause-nears
 renew-requires-clause-nears c i l =
@@ -104,12 +146,23 @@ renew-requires-clause-nears c i l =
     let others = ring_views c.joining.others.items in
     let nears = c.joining.nears.items in
     let k = c.first_of-first.result in
-    let chosen = choice c.joining.ring c.remove-other.result c.joining.others.items c.joining.nears.items c.deref-in-joining.result.now c.first_of-first.result c.remove-near.result c.joining.invariant.contours c.joining.invariant.enough c.joining.invariant.nearest c.deref-in-joining.ensures.value c.first_of-first.ensures c.remove-near.ensures.value c.remove-other.ensures.value in
+    let chosen = choice c.joining.ring c.remove-other.result c.joining.others.items c.joining.nears.items
+    c.deref-in-joining.result.now c.first_of-first.result c.remove-near.result c.joining.invariant.contours
+    c.joining.invariant.enough c.joining.invariant.nearest c.deref-in-joining.ensures.value c.first_of-first.ensures
+    c.remove-near.ensures.value c.remove-other.ensures.value in
     let points = c.deref-in-joining-3.ensures.value ∙ ap (λ (r : RingView). r.points) c.in_ok-ring-2.ensures in
-    let rest = nearest_remove ring.points.items others nears k (omega (arith, chosen.there, length-map c.joining.others.items ring_view)) c.joining.invariant.nearest in
+    let rest = nearest_remove ring.points.items others nears k
+    (omega (arith, chosen.there, length-map c.joining.others.items ring_view)) c.joining.invariant.nearest in
     let same : c.deref_mut.result.now ≡ remove nears k = c.deref_mut.ensures.value ∙ c.remove-near.ensures.items in
     let low = rest.each i (omega (arith, rest.same, l, ap length same)) in
-    omega (arith, ap length points, join-length ring.points.items other.points.items near.place near.vertex chosen.nearest.place chosen.nearest.vertex, low.place, ap (λ (x : List Near). (near_at x i).place) same)
+    omega (
+      arith,
+      ap length points,
+      join-length ring.points.items other.points.items near.place near.vertex
+          chosen.nearest.place chosen.nearest.vertex,
+      low.place,
+      ap (λ (x : List Near). (near_at x i).place) same,
+    )
 
 pub joining-preserved : goal.joining-preserved
 joining-preserved c =
@@ -122,31 +175,52 @@ joining-preserved c =
     let near = c.remove-near.result in
     let other = c.remove-other.result in
     let next = c.in_ok-ring-2.ring in
-    let chosen = choice c.joining.ring c.remove-other.result c.joining.others.items c.joining.nears.items c.deref-in-joining.result.now c.first_of-first.result c.remove-near.result c.joining.invariant.contours c.joining.invariant.enough c.joining.invariant.nearest c.deref-in-joining.ensures.value c.first_of-first.ensures c.remove-near.ensures.value c.remove-other.ensures.value in
+    let chosen = choice c.joining.ring c.remove-other.result c.joining.others.items c.joining.nears.items
+    c.deref-in-joining.result.now c.first_of-first.result c.remove-near.result c.joining.invariant.contours
+    c.joining.invariant.enough c.joining.invariant.nearest c.deref-in-joining.ensures.value c.first_of-first.ensures
+    c.remove-near.ensures.value c.remove-other.ensures.value in
     let place = sym (ap (λ (x : Bridge). x.place) chosen.bridge) in
     let which = sym (ap (λ (x : Bridge). x.other) chosen.bridge) in
     let vertex = sym (ap (λ (x : Bridge). x.vertex) chosen.bridge) in
-    let gone : ring_views rest ≡ remove (ring_views others) k = ap ring_views c.remove-other.ensures.items ∙ views_remove others k in
-    let size : suc (length rest) ≡ length others = omega (arith, ap length c.remove-other.ensures.items, length-remove others k chosen.there) in
-    let points : next.points.items ≡ join ring.points.items other.points.items near.place near.vertex = ap (λ (l : RingView). l.points) c.in_ok-ring-2.ensures in
+    let gone : ring_views rest ≡ remove (ring_views others) k = ap ring_views c.remove-other.ensures.items
+    ∙ views_remove others k in
+    let size : suc (length rest) ≡ length others =
+    omega (arith, ap length c.remove-other.ensures.items, length-remove others k chosen.there) in
+    let points : next.points.items ≡ join ring.points.items other.points.items near.place near.vertex =
+    ap (λ (l : RingView). l.points) c.in_ok-ring-2.ensures in
     let left = c.remove-near.new.self in
-    let rest_nearest = nearest_remove ring.points.items (ring_views others) nears k (omega (arith, chosen.there, length-map others ring_view)) v.nearest in
+    let rest_nearest = nearest_remove ring.points.items (ring_views others) nears k
+    (omega (arith, chosen.there, length-map others ring_view)) v.nearest in
     let seen = c.deref-in-joining-2.ensures.value in
     let after = c.deref-in-joining-3.ensures.value in
     let given : AreNearest ring.points.items (ring_views c.deref-in-joining-2.result.now) c.deref_mut.result.now =
-    subst (AreNearest ring.points.items (ring_views c.deref-in-joining-2.result.now)) (sym (c.deref_mut.ensures.value ∙ c.remove-near.ensures.items))
-    (subst (λ (l : List RingView). AreNearest ring.points.items l (remove nears k)) (sym (ap ring_views seen ∙ gone)) rest_nearest) in
+    subst (AreNearest ring.points.items (ring_views c.deref-in-joining-2.result.now))
+    (sym (c.deref_mut.ensures.value ∙ c.remove-near.ensures.items))
+    (subst (λ (l : List RingView). AreNearest ring.points.items l (remove nears k)) (sym (ap ring_views seen ∙ gone))
+    rest_nearest) in
     let added : c.len-added.result + 2 ≡ length other.points.items + 2 = omega arith in
     let grown : IsExtended ring.points.items c.deref-in-joining-3.result.now near.place (c.len-added.result + 2) =
-    subst (λ (l : List Point). IsExtended ring.points.items l near.place (c.len-added.result + 2)) (sym after) (extended ring other next near (c.len-added.result + 2) chosen.nearest points added) in
+    subst (λ (l : List Point). IsExtended ring.points.items l near.place (c.len-added.result + 2)) (sym after)
+    (extended ring other next near (c.len-added.result + 2) chosen.nearest points added) in
     let renewed : AreNearest next.points.items (ring_views rest) c.renew.new.nears =
-    subst (λ (l : List Point). AreNearest l (ring_views rest) c.renew.new.nears) after (subst (λ (l : List Ring). AreNearest c.deref-in-joining-3.result.now (ring_views l) c.renew.new.nears) seen (c.renew.ensures ring.points.items given grown)) in
-    let written : take left.len (c.renew.new.nears ++ drop (length c.renew.new.nears) left.items) ≡ c.renew.new.nears = grind (arith, common_steps) in
+    subst (λ (l : List Point). AreNearest l (ring_views rest) c.renew.new.nears) after
+    (subst (λ (l : List Ring). AreNearest c.deref-in-joining-3.result.now (ring_views l) c.renew.new.nears) seen
+    (c.renew.ensures ring.points.items given grown)) in
+    let written : take left.len (c.renew.new.nears ++ drop (length c.renew.new.nears) left.items) ≡ c.renew.new.nears =
+    grind (arith, common_steps) in
     record {
-      value = joins_on (ring_view ring) (ring_view next) (ring_views others) (ring_views rest) (length rest) near.place k near.vertex (ring_view other) place which vertex chosen.read c.in_ok-ring-2.ensures gone
+      value = joins_on (ring_view ring) (ring_view next) (ring_views others) (ring_views rest) (length rest) near.place
+          k near.vertex (ring_view other) place which vertex chosen.read c.in_ok-ring-2.ensures gone
           ∙ ap (λ (n : ℕ). join_others n (ring_view ring) (ring_views others)) size ∙ v.value;
       contours = rest_contours others rest k chosen.there c.remove-other.ensures.items v.contours;
-      range = subst (All IsInRange) (sym points) (join_range ring.points.items other.points.items near.place near.vertex v.range chosen.contour.in_range);
-      enough = omega (arith, ap length points, join-length ring.points.items other.points.items near.place near.vertex chosen.nearest.place chosen.nearest.vertex, v.enough);
+      range = subst (All IsInRange) (sym points)
+          (join_range ring.points.items other.points.items near.place near.vertex v.range chosen.contour.in_range);
+      enough = omega (
+        arith,
+        ap length points,
+        join-length ring.points.items other.points.items near.place near.vertex chosen.nearest.place
+            chosen.nearest.vertex,
+        v.enough,
+      );
       nearest = subst (AreNearest next.points.items (ring_views rest)) (sym written) renewed;
     }

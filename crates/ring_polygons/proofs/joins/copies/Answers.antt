@@ -12,9 +12,12 @@ loop-ring-preserved c =
     let ring = c.ring-item.result in
     let is_contour : IsContour ring = subst IsContour (sym c.ring-item.is) (c.requires i ring c.loop-ring-test.true) in
     record {
-      views = copied ring_view ring_view _ _ c.in_ok-copy.copy rings i ring c.loop-ring-test.true c.ring-item.is c.in_ok-push.ensures.items c.loop-ring.invariant.views c.in_ok-copy.ensures;
-      contours = all_pushed IsContour _ _ c.in_ok-copy.copy c.in_ok-push.ensures.items c.loop-ring.invariant.contours (contour_like c.in_ok-copy.copy ring c.in_ok-copy.ensures is_contour);
+      views = copied ring_view ring_view _ _ c.in_ok-copy.copy rings i ring c.loop-ring-test.true c.ring-item.is
+          c.in_ok-push.ensures.items c.loop-ring.invariant.views c.in_ok-copy.ensures;
+      contours = all_pushed IsContour _ _ c.in_ok-copy.copy c.in_ok-push.ensures.items c.loop-ring.invariant.contours
+          (contour_like c.in_ok-copy.copy ring c.in_ok-copy.ensures is_contour);
     }
 
 pub returns-clause-views : goal.returns-clause-views
-returns-clause-views c = c.loop-ring.invariant.views ∙ ap ring_views (take_all c.loop-ring.ring-index c.args.rings.now c.loop-ring-test.false)
+returns-clause-views c = c.loop-ring.invariant.views
+    ∙ ap ring_views (take_all c.loop-ring.ring-index c.args.rings.now c.loop-ring-test.false)

@@ -12,7 +12,10 @@ returns c w s ring more h =
     let old : List EarState = c.args.states.now in
     let b : ℕ = c.before_place-before.result in
     let a : ℕ = c.after_place-after.result in
-    let e : set (set c.move_each.new.states b (Open 0)) a (Open 0) ≡ after_cut old p = ap (λ (l : List EarState). set (set l b (Open 0)) a (Open 0)) c.move_each.ensures
+    let e : set (set c.move_each.new.states b (Open 0)) a (Open 0) ≡ after_cut old p =
+    ap (λ (l : List EarState). set (set l b (Open 0)) a (Open 0)) c.move_each.ensures
     ∙ ap (λ (i : ℕ). set (set (map (moved_state p) old) i (Open 0)) a (Open 0)) c.before_place-before.ensures.value
-    ∙ ap (λ (i : ℕ). set (set (map (moved_state p) old) (place_before (length old) p) (Open 0)) i (Open 0)) c.after_place-after.ensures.value in
-    subst (λ (l : List EarState). AreTrue w s (remove ring p) (remove l p)) (sym e) (cut_true w s ring old p (omega (arith, c.requires, h.one_each)) more h)
+    ∙ ap (λ (i : ℕ). set (set (map (moved_state p) old) (place_before (length old) p) (Open 0)) i (Open 0))
+    c.after_place-after.ensures.value in
+    subst (λ (l : List EarState). AreTrue w s (remove ring p) (remove l p)) (sym e)
+    (cut_true w s ring old p (omega (arith, c.requires, h.one_each)) more h)

@@ -8,4 +8,8 @@ loop-row-preserved c =
     let m : ℕ = length c.args.last.now in
     let row : ℕ = c.loop-row.row in
     let lt : row < m = omega (arith, c.loop-row-test.true) in
-    record { ends = sums_more (2 * m - 1) c.loop-row.ends (m + row) _ c.loop-row.invariant.ends (omega (arith, lt)) (omega (arith, ints, c.lack_of.ensures.least, c.lack_of.ensures.most)) (omega (arith, ints, c.lack_of.ensures.least, c.lack_of.ensures.most)) }
+    record {
+      ends = sums_more (2 * m - 1) c.loop-row.ends (m + row) _ c.loop-row.invariant.ends (omega (arith, lt))
+          (omega (arith, ints, c.lack_of.ensures.least, c.lack_of.ensures.most))
+          (omega (arith, ints, c.lack_of.ensures.least, c.lack_of.ensures.most));
+    }

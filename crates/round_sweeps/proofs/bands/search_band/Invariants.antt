@@ -7,7 +7,8 @@ use Rattle.round_sweeps.proofs.bands.search_band.Given as goal
 
 abbrev pub invariant-loop-col : goal.invariant-loop-col
 invariant-loop-col g l = record {
-  band : IsBand (g.S.StripColumns.costs l.costs) (lifted l.rows l.round (table_at l.rows l.table)) l.start (2 * l.rows - 1) l.cols l.limit l.col (at_row l.ends) (at_row l.sums);
+  band : IsBand (g.S.StripColumns.costs l.costs) (lifted l.rows l.round (table_at l.rows l.table)) l.start
+      (2 * l.rows - 1) l.cols l.limit l.col (at_row l.ends) (at_row l.sums);
   sums : AreSumsOf (2 * l.rows - 1) l.sums;
   window : IsWindow (2 * l.rows - 1) l.left.first l.left.last l.sums;
 }

@@ -22,7 +22,17 @@ overflow_add-bounds-in-loop-row c =
     let lt : row < m = omega (arith, c.loop-row-test.true) in
     let last = table_bounded m c.args.cols c.args.table.now c.requires.inside row c.args.cols lt (omega arith) in
     let first = table_bounded m c.args.cols c.args.table.now c.requires.inside row 0 lt (omega arith) in
-    omega (arith, ints, last.0, last.1, first.0, first.1, zeroth m c.args.table.now row, c.requires.round_least, c.requires.round_most)
+    omega (
+      arith,
+      ints,
+      last.0,
+      last.1,
+      first.0,
+      first.1,
+      zeroth m c.args.table.now row,
+      c.requires.round_least,
+      c.requires.round_most,
+    )
 
 pub loop-row-preserved : goal.loop-row-preserved
 loop-row-preserved c =
@@ -34,8 +44,31 @@ loop-row-preserved c =
     let last = table_bounded m n c.args.table.now c.requires.inside row n lt (omega arith) in
     let first = table_bounded m n c.args.table.now c.requires.inside row 0 lt (omega arith) in
     record {
-      are = set_more (λ (k : ℕ) (v : ℤ). v ≡ (table_at m c.args.table.now k n -ℤ table_at m c.args.table.now k 0) +ℤ to_z w64 (of_z w64 c.args.round)) (pos 0) c.loop-row.bounds row _ here c.loop-row.invariant.are
-          (omega (arith, ints, last.0, last.1, first.0, first.1, zeroth m c.args.table.now row, c.requires.round_least, c.requires.round_most));
-      fit = set_more (λ (k : ℕ) (v : ℤ). unsigned_abs v < 2 ^ 63) (pos 0) c.loop-row.bounds row _ here c.loop-row.invariant.fit
-          (omega (arith, ints, last.0, last.1, first.0, first.1, zeroth m c.args.table.now row, c.requires.round_least, c.requires.round_most));
+      are = set_more (λ (k : ℕ) (v : ℤ). v
+          ≡ (table_at m c.args.table.now k n -ℤ table_at m c.args.table.now k 0) +ℤ to_z w64 (of_z w64 c.args.round))
+          (pos 0) c.loop-row.bounds row _ here c.loop-row.invariant.are
+          (omega (
+            arith,
+            ints,
+            last.0,
+            last.1,
+            first.0,
+            first.1,
+            zeroth m c.args.table.now row,
+            c.requires.round_least,
+            c.requires.round_most,
+          ));
+      fit = set_more (λ (k : ℕ) (v : ℤ). unsigned_abs v < 2 ^ 63) (pos 0) c.loop-row.bounds row _ here
+          c.loop-row.invariant.fit
+          (omega (
+            arith,
+            ints,
+            last.0,
+            last.1,
+            first.0,
+            first.1,
+            zeroth m c.args.table.now row,
+            c.requires.round_least,
+            c.requires.round_most,
+          ));
     }

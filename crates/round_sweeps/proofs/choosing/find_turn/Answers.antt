@@ -34,10 +34,16 @@ returns-clause-chosen g c =
     let lt : i < m = omega (arith, c.first_least-row.ensures.within, c.requires.bounds_rows) in
     let b = first_number m i c.args.table.now lt (c.requires.inside 0 (omega arith)) in
     let fit = c.requires.bounds_fit i lt in
-    let el : to_z w64 (of_z w64 c.in-Some.limit) ≡ c.in-Some.limit = omega (arith, ints, c.in-Some.ensures.least, c.in-Some.ensures.most) in
+    let el : to_z w64 (of_z w64 c.in-Some.limit) ≡ c.in-Some.limit =
+    omega (arith, ints, c.in-Some.ensures.least, c.in-Some.ensures.most) in
     let er : to_z w64 (of_z w64 c.args.round) ≡ c.args.round = to_z-of_z w64 c.args.round c.ranges.round in
-    (chosen_by_search a m n c.args.round c.requires.potential.start c.args.table.now c.search_turn.new.ways i c.in-Some.limit (at_row c.args.bounds.now) c.in_ok-word.word.items (record { row = c.requires.periodic.row; col = c.requires.periodic_cols }) c.requires.some_cols c.requires.potential.potential c.requires.turns lt
-    (λ k q. c.first_least-row.ensures.least k (omega (arith, q, c.requires.bounds_rows))) c.first_least-row.ensures.first (omega (arith, ints, c.in-Some.ensures.value, b.0, b.1, fit)) (rw (el, er) at (c.search_turn.ensures.met c.if-not-search_turn.false)) c.in_ok-word.ensures).0
+    (chosen_by_search a m n c.args.round c.requires.potential.start c.args.table.now c.search_turn.new.ways i
+    c.in-Some.limit (at_row c.args.bounds.now) c.in_ok-word.word.items
+    (record { row = c.requires.periodic.row; col = c.requires.periodic_cols }) c.requires.some_cols
+    c.requires.potential.potential c.requires.turns lt
+    (λ k q. c.first_least-row.ensures.least k (omega (arith, q, c.requires.bounds_rows)))
+    c.first_least-row.ensures.first (omega (arith, ints, c.in-Some.ensures.value, b.0, b.1, fit))
+    (rw (el, er) at (c.search_turn.ensures.met c.if-not-search_turn.false)) c.in_ok-word.ensures).0
 
 pub returns-clause-cost : goal.returns-clause-cost
 returns-clause-cost g c =
@@ -48,12 +54,18 @@ returns-clause-cost g c =
     let lt : i < m = omega (arith, c.first_least-row.ensures.within, c.requires.bounds_rows) in
     let b = first_number m i c.args.table.now lt (c.requires.inside 0 (omega arith)) in
     let fit = c.requires.bounds_fit i lt in
-    let el : to_z w64 (of_z w64 c.in-Some.limit) ≡ c.in-Some.limit = omega (arith, ints, c.in-Some.ensures.least, c.in-Some.ensures.most) in
+    let el : to_z w64 (of_z w64 c.in-Some.limit) ≡ c.in-Some.limit =
+    omega (arith, ints, c.in-Some.ensures.least, c.in-Some.ensures.most) in
     let er : to_z w64 (of_z w64 c.args.round) ≡ c.args.round = to_z-of_z w64 c.args.round c.ranges.round in
     omega (
       arith,
       ints,
       fit,
-      (chosen_by_search a m n c.args.round c.requires.potential.start c.args.table.now c.search_turn.new.ways i c.in-Some.limit (at_row c.args.bounds.now) c.in_ok-word.word.items (record { row = c.requires.periodic.row; col = c.requires.periodic_cols }) c.requires.some_cols c.requires.potential.potential c.requires.turns lt
-          (λ k q. c.first_least-row.ensures.least k (omega (arith, q, c.requires.bounds_rows))) c.first_least-row.ensures.first (omega (arith, ints, c.in-Some.ensures.value, b.0, b.1, fit)) (rw (el, er) at (c.search_turn.ensures.met c.if-not-search_turn.false)) c.in_ok-word.ensures).1,
+      (chosen_by_search a m n c.args.round c.requires.potential.start c.args.table.now c.search_turn.new.ways i
+          c.in-Some.limit (at_row c.args.bounds.now) c.in_ok-word.word.items
+          (record { row = c.requires.periodic.row; col = c.requires.periodic_cols }) c.requires.some_cols
+          c.requires.potential.potential c.requires.turns lt
+          (λ k q. c.first_least-row.ensures.least k (omega (arith, q, c.requires.bounds_rows)))
+          c.first_least-row.ensures.first (omega (arith, ints, c.in-Some.ensures.value, b.0, b.1, fit))
+          (rw (el, er) at (c.search_turn.ensures.met c.if-not-search_turn.false)) c.in_ok-word.ensures).1,
     )

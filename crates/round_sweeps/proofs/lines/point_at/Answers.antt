@@ -5,7 +5,8 @@ use Rattle.round_sweeps.proofs.lines.point_at.Goals as goal
 
 pub returns-then-index-ring-clause-value : goal.returns-then-index-ring-clause-value
 unfolding around
-returns-then-index-ring-clause-value c = ap (λ (k : ℕ). slice_index_or c.args.ring.now k origin) (sym (mod-eq_of_lt c.if-index-ring.true))
+returns-then-index-ring-clause-value c =
+    ap (λ (k : ℕ). slice_index_or c.args.ring.now k origin) (sym (mod-eq_of_lt c.if-index-ring.true))
 
 pub returns-else-index-ring-clause-value : goal.returns-else-index-ring-clause-value
 unfolding around

@@ -13,8 +13,19 @@ loop-row-preserved g c =
     let high = h.rates.most row (omega (arith, lt, h.count)) in
     record {
       lowered = elim c.if-cost-rates.branch [
-        | then-cost-rates w ↦ rw w.rates-is (lowered_more c.args.rates.now c.loop-row.rates row _ h lt (omega (arith, ints, c.down-cost.ensures.value, c.down-cost.ensures.least, c.down-cost.ensures.most))
-            (grind (arith, ints, low, high, c.down-cost.ensures.value, c.down-cost.ensures.least, c.down-cost.ensures.most, w.if-cost-rates.true)))
+        | then-cost-rates w ↦ rw w.rates-is
+            (lowered_more c.args.rates.now c.loop-row.rates row _ h lt
+            (omega (arith, ints, c.down-cost.ensures.value, c.down-cost.ensures.least, c.down-cost.ensures.most))
+            (grind (
+              arith,
+              ints,
+              low,
+              high,
+              c.down-cost.ensures.value,
+              c.down-cost.ensures.least,
+              c.down-cost.ensures.most,
+              w.if-cost-rates.true,
+            )))
         | else-cost-rates w ↦ rw w.rates-is h
       ];
     }

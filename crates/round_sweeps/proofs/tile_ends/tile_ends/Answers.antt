@@ -13,14 +13,17 @@ loop-index-init c = record {
 }
 
 pub tile_end-requires-clause-before : goal.tile_end-requires-clause-before
-tile_end-requires-clause-before c = subst IsInRange (sym c.loop-index.invariant.before) (around-in_range c.args.ring.now _ c.requires.ring)
+tile_end-requires-clause-before c =
+    subst IsInRange (sym c.loop-index.invariant.before) (around-in_range c.args.ring.now _ c.requires.ring)
 
 pub loop-index-preserved : goal.loop-index-preserved
 loop-index-preserved c =
     let z = to_z w32 (of_z w32 c.args.height) in
     let here = c.point_at-here.ensures.value in
-    let last = subst₂ (λ (a b : Point). IsTileEnd c.args.turned z a b c.tile_end.result) c.loop-index.invariant.before here c.tile_end.ensures in
+    let last = subst₂ (λ (a b : Point). IsTileEnd c.args.turned z a b c.tile_end.result) c.loop-index.invariant.before
+    here c.tile_end.ensures in
     record {
       before = here ∙ next_before c.args.ring.now c.loop-index.index c.requires.ring.enough;
-      ends = ends_more c.args.turned z c.args.ring.now c.loop-index.index c.loop-index.ends.items c.push.new.self.items c.tile_end.result c.loop-index.invariant.ends c.in_ok-push.ensures.items last;
+      ends = ends_more c.args.turned z c.args.ring.now c.loop-index.index c.loop-index.ends.items c.push.new.self.items
+          c.tile_end.result c.loop-index.invariant.ends c.in_ok-push.ensures.items last;
     }

@@ -11,8 +11,13 @@ returns-clause-column g c =
     let front = c.split_at_mut-rest.result.0.now in
     let column = c.search_column.new.ways in
     let d : at + m - at ≡ m = omega arith in
-    let len : length (take m (drop at c.args.table.now)) ≡ m = length-take-le m (drop at c.args.table.now) (omega (arith, length-drop at c.args.table.now, c.requires.room)) in
+    let len : length (take m (drop at c.args.table.now)) ≡ m =
+    length-take-le m (drop at c.args.table.now) (omega (arith, length-drop at c.args.table.now, c.requires.room)) in
     let el : to_z w64 (of_z w64 c.args.limit) ≡ c.args.limit = to_z-of_z w64 c.args.limit c.ranges.limit in
     let er : to_z w64 (of_z w64 c.args.round) ≡ c.args.round = to_z-of_z w64 c.args.round c.ranges.round in
-    back_ways m c.args.limit _ _ _ c.args.sums.now c.search_column.new.sums column (drop (c.args.col * (m + 1)) (front ++ (column ++ c.split_at_mut-column.result.1.now)))
-    (way_joined (c.args.col * (m + 1)) m front column c.split_at_mut-column.result.1.now c.split_at_mut-rest.ensures.front_len (omega (arith, c.search_column.auto.ways, c.split_at_mut-column.ensures.front_len))) (rw (d, len, el, er) at c.search_column.ensures.column)
+    back_ways m c.args.limit _ _ _ c.args.sums.now c.search_column.new.sums column
+    (drop (c.args.col * (m + 1)) (front ++ (column ++ c.split_at_mut-column.result.1.now)))
+    (way_joined (c.args.col * (m + 1)) m front column c.split_at_mut-column.result.1.now
+    c.split_at_mut-rest.ensures.front_len
+    (omega (arith, c.search_column.auto.ways, c.split_at_mut-column.ensures.front_len)))
+    (rw (d, len, el, er) at c.search_column.ensures.column)

@@ -23,21 +23,30 @@ loop-letter-preserved c =
         | else-goes_down+in_ok-push-2 w ↦ omega (arith, w.row-is, w.col-is, h.place)
       ];
       row_in = elim c.if-goes_down.branch [
-        | then-goes_down+in_ok-push w ↦ (let t : way row col ≡ true = sym c.goes_down.ensures ∙ search (rules, w.if-goes_down.true) in omega (arith, w.row-is, guarded_down m n (way_at m c.args.ways.now) row col t))
+        | then-goes_down+in_ok-push w ↦ (let t : way row col ≡ true = sym c.goes_down.ensures
+            ∙ search (rules, w.if-goes_down.true) in
+            omega (arith, w.row-is, guarded_down m n (way_at m c.args.ways.now) row col t))
         | else-goes_down+in_ok-push-2 w ↦ omega (arith, w.row-is, h.row_in)
       ];
       col_in = elim c.if-goes_down.branch [
         | then-goes_down+in_ok-push w ↦ omega (arith, w.col-is, h.col_in)
-        | else-goes_down+in_ok-push-2 w ↦ (let t : way row col ≡ false = sym c.goes_down.ensures ∙ search (rules, w.if-goes_down.false) in
+        | else-goes_down+in_ok-push-2 w ↦ (let t : way row col ≡ false = sym c.goes_down.ensures
+            ∙ search (rules, w.if-goes_down.false) in
             omega (arith, w.col-is, guarded_right m n (way_at m c.args.ways.now) row col t h.row_in more))
       ];
       spelled = elim c.if-goes_down.branch [
-        | then-goes_down+in_ok-push w ↦ (let t : way row col ≡ true = sym c.goes_down.ensures ∙ search (rules, w.if-goes_down.true) in
-            let e : c.if-goes_down.word.items ≡ c.loop-letter.word.items ++ V ∷ [] = cc (w.word-is, w.in_ok-push.ensures.items) in
-            rw (w.row-is, w.col-is) (spelled_down way f _ row col c.loop-letter.word.items c.if-goes_down.word.items _ g t e h.spelled))
-        | else-goes_down+in_ok-push-2 w ↦ (let t : way row col ≡ false = sym c.goes_down.ensures ∙ search (rules, w.if-goes_down.false) in
-            let e : c.if-goes_down.word.items ≡ c.loop-letter.word.items ++ H ∷ [] = cc (w.word-is, w.in_ok-push-2.ensures.items) in
-            rw (w.row-is, w.col-is) (spelled_right way f _ row col c.loop-letter.word.items c.if-goes_down.word.items _ g t e h.spelled))
+        | then-goes_down+in_ok-push w ↦ (let t : way row col ≡ true = sym c.goes_down.ensures
+            ∙ search (rules, w.if-goes_down.true) in
+            let e : c.if-goes_down.word.items ≡ c.loop-letter.word.items ++ V ∷ [] =
+            cc (w.word-is, w.in_ok-push.ensures.items) in
+            rw (w.row-is, w.col-is) (spelled_down way f _ row col c.loop-letter.word.items c.if-goes_down.word.items _ g
+            t e h.spelled))
+        | else-goes_down+in_ok-push-2 w ↦ (let t : way row col ≡ false = sym c.goes_down.ensures
+            ∙ search (rules, w.if-goes_down.false) in
+            let e : c.if-goes_down.word.items ≡ c.loop-letter.word.items ++ H ∷ [] =
+            cc (w.word-is, w.in_ok-push-2.ensures.items) in
+            rw (w.row-is, w.col-is) (spelled_right way f _ row col c.loop-letter.word.items c.if-goes_down.word.items _
+            g t e h.spelled))
       ];
     }
 
@@ -46,4 +55,5 @@ returns c =
     let m : ℕ = c.args.rows in
     let n : ℕ = c.args.cols in
     let h = c.loop-letter.invariant in
-    spelled_end (guarded m n (way_at m c.args.ways.now)) _ c.loop-letter.row c.loop-letter.col c.loop-letter.word.items _ (omega (arith, c.loop-letter-test.false)) h.spelled
+    spelled_end (guarded m n (way_at m c.args.ways.now)) _ c.loop-letter.row c.loop-letter.col c.loop-letter.word.items
+    _ (omega (arith, c.loop-letter-test.false)) h.spelled

@@ -8,5 +8,6 @@ invariant-loop-letter l = record {
   place : l.row + l.col ≡ l.letter;
   row_in : l.row ≤ l.rows;
   col_in : l.col ≤ l.cols;
-  spelled : l.word.items ++ spell (guarded l.rows l.cols (way_at l.rows l.ways)) (l.rows + l.cols - l.letter) l.row l.col ≡ spell (guarded l.rows l.cols (way_at l.rows l.ways)) (l.rows + l.cols) 0 0;
+  spelled : l.word.items ++ spell (guarded l.rows l.cols (way_at l.rows l.ways)) (l.rows + l.cols - l.letter) l.row
+      l.col ≡ spell (guarded l.rows l.cols (way_at l.rows l.ways)) (l.rows + l.cols) 0 0;
 }

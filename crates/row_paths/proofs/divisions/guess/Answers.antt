@@ -4,43 +4,51 @@ use Rattle.row_paths.proofs.GapLaws.{enters_between, leaves_between}
 use Rattle.row_paths.proofs.divisions.guess.Goals as goal
 
 -- the rows of the words looked at
-rows_of : (q q' m r : ℕ) → q < q' → q' + 2 ≤ 2 * m → r ≡ m → (q' / 2 ≤ (q + 1) / 2 + m) × (q' / 2 ≤ (q + 1) / 2 + r) × ((q + 1) / 2 + r ≤ (q + 1) / 2 + m)
+rows_of : (q q' m r : ℕ) → q < q' → q' + 2 ≤ 2 * m → r ≡ m → (q' / 2 ≤ (q + 1) / 2 + m) × (q' / 2 ≤ (q + 1) / 2 + r)
+    × ((q + 1) / 2 + r ≤ (q + 1) / 2 + m)
 rows_of q q' m r lt last e = (omega arith, omega arith, omega arith)
 
-within : (q q' m r a b : ℕ) → q < q' → q' + 2 ≤ 2 * m → r ≡ m → a ≡ 2 * m + 1 → b ≡ 2 * m + 1 → (q' / 2 < a) × ((q + 1) / 2 + r + 1 < b)
+within : (q q' m r a b : ℕ) → q < q' → q' + 2 ≤ 2 * m → r ≡ m → a ≡ 2 * m + 1 → b ≡ 2 * m + 1 → (q' / 2 < a)
+    × ((q + 1) / 2 + r + 1 < b)
 within q q' m r a b lt last e f f' = (omega arith, omega arith)
 
 -- one table takes at most the bound, and so do two
 once : (new old part all k : ℕ) → new ≤ old + 2 * (part + k) → part ≤ all → new ≤ old + 4 * (all + k)
 once new old part all k count le = omega arith
 
-twice : (new mid old part all k : ℕ) → new ≤ mid + 2 * (part + k) → mid ≤ old + 2 * (part + k) → part ≤ all → new ≤ old + 4 * (all + k)
+twice : (new mid old part all k : ℕ) → new ≤ mid + 2 * (part + k) → mid ≤ old + 2 * (part + k) → part ≤ all
+    → new ≤ old + 4 * (all + k)
 twice new mid old part all k count count' le = omega arith
 
 pub bounds-part-row : goal.bounds-part-row
 bounds-part-row g c =
     let part = c.looked_at-part.ensures.part in
-    (within c.looked_at-part.result.first c.looked_at-part.result.last (rows c.args.strip.now) c.rows-rows.result _ _ part.order part.last c.rows-rows.ensures.value part.hi part.lo).0
+    (within c.looked_at-part.result.first c.looked_at-part.result.last (rows c.args.strip.now) c.rows-rows.result _ _
+    part.order part.last c.rows-rows.ensures.value part.hi part.lo).0
 
 pub bounds-part-row-2 : goal.bounds-part-row-2
 bounds-part-row-2 g c =
     let part = c.looked_at-part.ensures.part in
-    (within c.looked_at-part.result.first c.looked_at-part.result.last (rows c.args.strip.now) c.rows-rows.result _ _ part.order part.last c.rows-rows.ensures.value part.hi part.lo).1
+    (within c.looked_at-part.result.first c.looked_at-part.result.last (rows c.args.strip.now) c.rows-rows.result _ _
+    part.order part.last c.rows-rows.ensures.value part.hi part.lo).1
 
 pub fill_place-requires-clause-below : goal.fill_place-requires-clause-below
 fill_place-requires-clause-below g c =
     let part = c.looked_at-part.ensures.part in
-    (rows_of c.looked_at-part.result.first c.looked_at-part.result.last (rows c.args.strip.now) c.rows-rows.result part.order part.last c.rows-rows.ensures.value).0
+    (rows_of c.looked_at-part.result.first c.looked_at-part.result.last (rows c.args.strip.now) c.rows-rows.result
+    part.order part.last c.rows-rows.ensures.value).0
 
 pub fill_place-requires-2-clause-above : goal.fill_place-requires-2-clause-above
 fill_place-requires-2-clause-above g c =
     let part = c.looked_at-part.ensures.part in
-    (rows_of c.looked_at-part.result.first c.looked_at-part.result.last (rows c.args.strip.now) c.rows-rows.result part.order part.last c.rows-rows.ensures.value).1
+    (rows_of c.looked_at-part.result.first c.looked_at-part.result.last (rows c.args.strip.now) c.rows-rows.result
+    part.order part.last c.rows-rows.ensures.value).1
 
 pub fill_place-requires-2-clause-below : goal.fill_place-requires-2-clause-below
 fill_place-requires-2-clause-below g c =
     let part = c.looked_at-part.ensures.part in
-    (rows_of c.looked_at-part.result.first c.looked_at-part.result.last (rows c.args.strip.now) c.rows-rows.result part.order part.last c.rows-rows.ensures.value).2
+    (rows_of c.looked_at-part.result.first c.looked_at-part.result.last (rows c.args.strip.now) c.rows-rows.result
+    part.order part.last c.rows-rows.ensures.value).2
 
 pub first_less-requires-clause-by_first : goal.first_less-requires-clause-by_first
 first_less-requires-clause-by_first g c = ap length c.deref.ensures.value ∙ c.in_ok-by_first.ensures
@@ -55,36 +63,47 @@ pub returns-in_err-by_first-clause-count : goal.returns-in_err-by_first-clause-c
 returns-in_err-by_first-clause-count g c = once _ _ _ _ _ c.fill_place.ensures.count c.looked_at-part.ensures.places
 
 pub returns-in_err-fill_place-2-clause-count : goal.returns-in_err-fill_place-2-clause-count
-returns-in_err-fill_place-2-clause-count g c = twice _ _ _ _ _ _ c.fill_place-2.ensures.count c.fill_place.ensures.count c.looked_at-part.ensures.places
+returns-in_err-fill_place-2-clause-count g c =
+    twice _ _ _ _ _ _ c.fill_place-2.ensures.count c.fill_place.ensures.count c.looked_at-part.ensures.places
 
 pub returns-in_err-by_last-clause-count : goal.returns-in_err-by_last-clause-count
-returns-in_err-by_last-clause-count g c = twice _ _ _ _ _ _ c.fill_place-2.ensures.count c.fill_place.ensures.count c.looked_at-part.ensures.places
+returns-in_err-by_last-clause-count g c =
+    twice _ _ _ _ _ _ c.fill_place-2.ensures.count c.fill_place.ensures.count c.looked_at-part.ensures.places
 
 pub returns-clause-count : goal.returns-clause-count
-returns-clause-count g c = twice _ _ _ _ _ _ c.fill_place-2.ensures.count c.fill_place.ensures.count c.looked_at-part.ensures.places
+returns-clause-count g c = twice _ _ _ _ _ _ c.fill_place-2.ensures.count c.fill_place.ensures.count
+    c.looked_at-part.ensures.places
 
 pub fill_place-requires-clause-left : goal.fill_place-requires-clause-left
 fill_place-requires-clause-left g c =
     let part = c.looked_at-part.ensures.part in
-    (enters_between (arcs c.args.strip.now) (rows c.args.strip.now) (cols c.args.strip.now) part.above part.below (c.looked_at-part.result.last / 2) c.looked_at-part.result.lo.now c.looked_at-part.result.hi.now (omega (arith, part.first_below, part.order, part.last_above))
+    (enters_between (arcs c.args.strip.now) (rows c.args.strip.now) (cols c.args.strip.now) part.above part.below
+    (c.looked_at-part.result.last / 2) c.looked_at-part.result.lo.now c.looked_at-part.result.hi.now
+    (omega (arith, part.first_below, part.order, part.last_above))
     (omega (arith, part.hi, part.last)) part.from part.to).0
 
 pub fill_place-requires-clause-right : goal.fill_place-requires-clause-right
 fill_place-requires-clause-right g c =
     let part = c.looked_at-part.ensures.part in
-    (enters_between (arcs c.args.strip.now) (rows c.args.strip.now) (cols c.args.strip.now) part.above part.below (c.looked_at-part.result.last / 2) c.looked_at-part.result.lo.now c.looked_at-part.result.hi.now (omega (arith, part.first_below, part.order, part.last_above))
+    (enters_between (arcs c.args.strip.now) (rows c.args.strip.now) (cols c.args.strip.now) part.above part.below
+    (c.looked_at-part.result.last / 2) c.looked_at-part.result.lo.now c.looked_at-part.result.hi.now
+    (omega (arith, part.first_below, part.order, part.last_above))
     (omega (arith, part.hi, part.last)) part.from part.to).1
 
 pub fill_place-requires-2-clause-left : goal.fill_place-requires-2-clause-left
 fill_place-requires-2-clause-left g c =
     let part = c.looked_at-part.ensures.part in
     let m' : c.rows-rows.result ≡ rows c.args.strip.now = c.rows-rows.ensures.value in
-    (leaves_between (arcs c.args.strip.now) (rows c.args.strip.now) (cols c.args.strip.now) part.above part.below ((c.looked_at-part.result.first + 1) / 2 + c.rows-rows.result) c.looked_at-part.result.lo.now c.looked_at-part.result.hi.now (omega (arith, part.first_below, part.order, part.last_above))
+    (leaves_between (arcs c.args.strip.now) (rows c.args.strip.now) (cols c.args.strip.now) part.above part.below
+    ((c.looked_at-part.result.first + 1) / 2 + c.rows-rows.result) c.looked_at-part.result.lo.now
+    c.looked_at-part.result.hi.now (omega (arith, part.first_below, part.order, part.last_above))
     (omega (arith, m', part.lo, part.order, part.last)) part.from part.to).0
 
 pub fill_place-requires-2-clause-right : goal.fill_place-requires-2-clause-right
 fill_place-requires-2-clause-right g c =
     let part = c.looked_at-part.ensures.part in
     let m' : c.rows-rows.result ≡ rows c.args.strip.now = c.rows-rows.ensures.value in
-    (leaves_between (arcs c.args.strip.now) (rows c.args.strip.now) (cols c.args.strip.now) part.above part.below ((c.looked_at-part.result.first + 1) / 2 + c.rows-rows.result) c.looked_at-part.result.lo.now c.looked_at-part.result.hi.now (omega (arith, part.first_below, part.order, part.last_above))
+    (leaves_between (arcs c.args.strip.now) (rows c.args.strip.now) (cols c.args.strip.now) part.above part.below
+    ((c.looked_at-part.result.first + 1) / 2 + c.rows-rows.result) c.looked_at-part.result.lo.now
+    c.looked_at-part.result.hi.now (omega (arith, part.first_below, part.order, part.last_above))
     (omega (arith, m', part.lo, part.order, part.last)) part.from part.to).1

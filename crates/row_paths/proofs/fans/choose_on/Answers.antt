@@ -12,19 +12,29 @@ use Rattle.row_paths.proofs.FanLaws.{on_fits, on_both, after_less}
 use Rattle.row_paths.proofs.fans.choose_on.Goals as goal
 
 pub bounds-sums-first : goal.bounds-sums-first
-bounds-sums-first g c = le_lt (le_le c.requires.order (eq_le c.requires.last (c.args.region.now.shape.within c.args.above.now.row))) c.requires.sums
+bounds-sums-first g c = le_lt (le_le c.requires.order
+    (eq_le c.requires.last (c.args.region.now.shape.within c.args.above.now.row))) c.requires.sums
 
 pub bounds-sums-col : goal.bounds-sums-col
-bounds-sums-col g c = lt_eq (le_lt (next_le (lt_up c.loop-col-test.true (eq_le c.requires.last (c.args.region.now.shape.within c.args.above.now.row)))) c.requires.sums) c.loop-col.auto.sums
+bounds-sums-col g c = lt_eq (le_lt
+    (next_le (lt_up c.loop-col-test.true (eq_le c.requires.last (c.args.region.now.shape.within c.args.above.now.row))))
+    c.requires.sums) c.loop-col.auto.sums
 
 pub bounds-sums-col-in-loop-col : goal.bounds-sums-col-in-loop-col
-bounds-sums-col-in-loop-col g c = lt_eq (le_lt (next_le (lt_up c.loop-col-test.true (eq_le c.requires.last (c.args.region.now.shape.within c.args.above.now.row)))) c.requires.sums) c.loop-col.auto.sums
+bounds-sums-col-in-loop-col g c = lt_eq
+    (le_lt (next_le (lt_up c.loop-col-test.true
+    (eq_le c.requires.last (c.args.region.now.shape.within c.args.above.now.row)))) c.requires.sums)
+    c.loop-col.auto.sums
 
 pub down-down-requires : goal.down-down-requires
-down-down-requires g c = le_le (next_le (lt_up c.loop-col-test.true (eq_le c.requires.last (c.args.region.now.shape.within c.args.above.now.row)))) c.requires.width
+down-down-requires g c = le_le (next_le
+    (lt_up c.loop-col-test.true (eq_le c.requires.last (c.args.region.now.shape.within c.args.above.now.row))))
+    c.requires.width
 
 pub right-right-requires : goal.right-right-requires
-right-right-requires g c = lt_eq (lt_up (lt_up c.loop-col-test.true (eq_le c.requires.last (c.args.region.now.shape.within c.args.above.now.row))) c.requires.width) (ap cols c.requires.strip)
+right-right-requires g c = lt_eq (lt_up
+    (lt_up c.loop-col-test.true (eq_le c.requires.last (c.args.region.now.shape.within c.args.above.now.row)))
+    c.requires.width) (ap cols c.requires.strip)
 
 pub plus-by_v-requires : goal.plus-by_v-requires
 plus-by_v-requires g c =
@@ -37,8 +47,11 @@ plus-by_v-requires g c =
     let within = c.args.region.now.shape.within x in
     let to : col ≤ last_at c.args.region.now.hi.now x = next_le (lt_eq c.loop-col-test.true (sym c.requires.last)) in
     let at : col ≤ cols p = le_le (le_le to within) c.requires.width in
-    let u = read_is value c.loop-col.sums col c.index-sums-col.result c.index-sums-col.is (lt_eq (le_lt (le_le to within) c.requires.sums) c.loop-col.auto.sums) in
-    let fits = cost_fits g.C.Sum.Amount.MOST p (arcs p) (bound_at c.args.region.now.lo.now) (last_at c.args.region.now.hi.now) x col c.args.region.now.start c.args.left (get_or (map value c.loop-col.sums) col 0) (cost c.down-down.result)
+    let u = read_is value c.loop-col.sums col c.index-sums-col.result c.index-sums-col.is
+    (lt_eq (le_lt (le_le to within) c.requires.sums) c.loop-col.auto.sums) in
+    let fits = cost_fits g.C.Sum.Amount.MOST p (arcs p) (bound_at c.args.region.now.lo.now)
+    (last_at c.args.region.now.hi.now) x col c.args.region.now.start c.args.left
+    (get_or (map value c.loop-col.sums) col 0) (cost c.down-down.result)
     (lt_lt c.requires.row c.requires.end) at c.down-down.ensures.small (c.loop-col.invariant.after col less to) in
     sum_eq _ _ _ _ u fits
 
@@ -52,8 +65,12 @@ plus-by_h-requires g c =
     let to : col < last_at c.args.region.now.hi.now x = lt_eq c.loop-col-test.true (sym c.requires.last) in
     let at : col < cols p = lt_up (lt_up to (c.args.region.now.shape.within x)) c.requires.width in
     let at' : col < cols c.args.from.now.strip = lt_eq at (ap cols c.requires.strip) in
-    on_fits g.C.Sum.Amount.MOST p (arcs p) (bound_at c.args.region.now.lo.now) (last_at c.args.region.now.hi.now) c.args.region.now.start c.args.left (x + 1) col (value c.loop-col.sum) (cost c.right-right.result) (map value c.loop-col.sums)
-    (le_lt (next_le c.requires.row) c.requires.end) (lt_le at) (le_to c.right-right.ensures.small (ap (largest g.C.Sum.Amount.MOST) c.requires.strip)) (le_le c.requires.from c.loop-col.auto.col) c.loop-col.invariant.reached
+    on_fits g.C.Sum.Amount.MOST p (arcs p) (bound_at c.args.region.now.lo.now) (last_at c.args.region.now.hi.now)
+    c.args.region.now.start c.args.left (x + 1) col (value c.loop-col.sum) (cost c.right-right.result)
+    (map value c.loop-col.sums)
+    (le_lt (next_le c.requires.row) c.requires.end) (lt_le at)
+    (le_to c.right-right.ensures.small (ap (largest g.C.Sum.Amount.MOST) c.requires.strip))
+    (le_le c.requires.from c.loop-col.auto.col) c.loop-col.invariant.reached
 
 pub loop-col-preserved : goal.loop-col-preserved
 loop-col-preserved g c =
@@ -70,19 +87,28 @@ loop-col-preserved g c =
     let to : col + 1 ≤ hi x = next_le (lt_eq c.loop-col-test.true (sym c.requires.last)) in
     let at : col + 1 ≤ cols p = le_le (le_le to within) c.requires.width in
     let at' : col < cols c.args.from.now.strip = lt_eq (lt_of_next at) (ap cols c.requires.strip) in
-    let here : col + 1 < length (map value c.loop-col.sums) = lt_eq (lt_eq (le_lt (le_le to within) c.requires.sums) c.loop-col.auto.sums) (length-map c.loop-col.sums value) in
-    let u = read_is value c.loop-col.sums (col + 1) c.index-sums-col.result c.index-sums-col.is (lt_eq (le_lt (le_le to within) c.requires.sums) c.loop-col.auto.sums) in
+    let here : col + 1 < length (map value c.loop-col.sums) =
+    lt_eq (lt_eq (le_lt (le_le to within) c.requires.sums) c.loop-col.auto.sums) (length-map c.loop-col.sums value)
+    in
+    let u = read_is value c.loop-col.sums (col + 1) c.index-sums-col.result c.index-sums-col.is
+    (lt_eq (le_lt (le_le to within) c.requires.sums) c.loop-col.auto.sums) in
     let y = c.down-down.ensures.value in
     let z = c.right-right.ensures.value in
-    let by_v : value c.plus-by_v.result ≡ get_or (map value c.loop-col.sums) (col + 1) 0 + cost c.down-down.result = c.plus-by_v.ensures ∙ ap (λ (k : ℕ). k + cost c.down-down.result) u in
+    let by_v : value c.plus-by_v.result ≡ get_or (map value c.loop-col.sums) (col + 1) 0 + cost c.down-down.result =
+    c.plus-by_v.ensures ∙ ap (λ (k : ℕ). k + cost c.down-down.result) u in
     let right = z ∙ ap₂ (λ (s : Strip) (r : ℕ). arcs s r col H) c.requires.strip c.requires.next in
-    let small : cost c.right-right.result ≤ b = le_to c.right-right.ensures.small (ap (largest g.C.Sum.Amount.MOST) c.requires.strip) in
+    let small : cost c.right-right.result ≤ b =
+    le_to c.right-right.ensures.small (ap (largest g.C.Sum.Amount.MOST) c.requires.strip) in
     record {
-      reached = rw map-set (on_both b (arcs p) lo hi i c.args.left x col (value c.loop-col.sum) (value c.least-sum.result) (cost c.down-down.result) (cost c.right-right.result) (map value c.loop-col.sums)
+      reached = rw map-set (on_both b (arcs p) lo hi i c.args.left x col (value c.loop-col.sum)
+          (value c.least-sum.result) (cost c.down-down.result) (cost c.right-right.result) (map value c.loop-col.sums)
           here c.requires.above (le_le c.requires.from c.loop-col.auto.col) to y c.down-down.ensures.small right small
-          (c.least-sum.ensures ∙ ap₂ min by_v c.plus-by_h.ensures) c.loop-col.invariant.after c.loop-col.invariant.reached);
-      after = rw map-set (after_less b (arcs p) lo hi i c.args.left x col (value c.least-sum.result) (map value c.loop-col.sums) c.loop-col.invariant.after);
-      count = right_two _ _ _ _ _ _ c.loop-col.invariant.count c.down-down.ensures.count c.right-right.ensures.count c.loop-col.auto.col;
+          (c.least-sum.ensures ∙ ap₂ min by_v c.plus-by_h.ensures) c.loop-col.invariant.after
+          c.loop-col.invariant.reached);
+      after = rw map-set (after_less b (arcs p) lo hi i c.args.left x col (value c.least-sum.result)
+          (map value c.loop-col.sums) c.loop-col.invariant.after);
+      count = right_two _ _ _ _ _ _ c.loop-col.invariant.count c.down-down.ensures.count c.right-right.ensures.count
+          c.loop-col.auto.col;
     }
 
 pub returns-clause-reached : goal.returns-clause-reached
@@ -92,22 +118,34 @@ pub loop-col-init : goal.loop-col-init
 loop-col-init g c =
     let p = c.args.above.now.strip in
     record {
-      reached = reached_first g.C.Sum.Amount.value (largest g.C.Sum.Amount.MOST p) (arcs p) (bound_at c.args.region.now.lo.now) (last_at c.args.region.now.hi.now) c.args.region.now.start c.args.left (c.args.above.now.row + 1) c.args.first c.args.sums.now c.index-sums-first.result c.index-sums-first.is (le_lt (le_le c.requires.order (eq_le c.requires.last (c.args.region.now.shape.within c.args.above.now.row))) c.requires.sums) c.requires.reached;
+      reached = reached_first g.C.Sum.Amount.value (largest g.C.Sum.Amount.MOST p) (arcs p)
+          (bound_at c.args.region.now.lo.now) (last_at c.args.region.now.hi.now) c.args.region.now.start c.args.left
+          (c.args.above.now.row + 1) c.args.first c.args.sums.now c.index-sums-first.result c.index-sums-first.is
+          (le_lt (le_le c.requires.order (eq_le c.requires.last (c.args.region.now.shape.within c.args.above.now.row)))
+          c.requires.sums) c.requires.reached;
       after = c.requires.after;
       count = none_left_of_two c.args.steps.now c.args.first;
     }
 
 pub offset_bounds-sums-first : goal.offset_bounds-sums-first
 offset_bounds-sums-first g c =
-    let at : c.args.first < length c.args.sums.now = le_lt (le_le c.requires.order (eq_le c.requires.last (c.args.region.now.shape.within c.args.above.now.row))) c.requires.sums in
+    let at : c.args.first < length c.args.sums.now =
+    le_lt (le_le c.requires.order (eq_le c.requires.last (c.args.region.now.shape.within c.args.above.now.row)))
+    c.requires.sums in
     search (rules, at)
 
 pub offset_bounds-sums-col : goal.offset_bounds-sums-col
 offset_bounds-sums-col g c =
-    let at : c.loop-col.col + 1 < length c.loop-col.sums = lt_eq (le_lt (next_le (lt_up c.loop-col-test.true (eq_le c.requires.last (c.args.region.now.shape.within c.args.above.now.row)))) c.requires.sums) c.loop-col.auto.sums in
+    let at : c.loop-col.col + 1 < length c.loop-col.sums =
+    lt_eq (le_lt (next_le (lt_up c.loop-col-test.true
+    (eq_le c.requires.last (c.args.region.now.shape.within c.args.above.now.row)))) c.requires.sums)
+    c.loop-col.auto.sums in
     search (rules, at)
 
 pub offset_bounds-sums-col-in-loop-col : goal.offset_bounds-sums-col-in-loop-col
 offset_bounds-sums-col-in-loop-col g c =
-    let at : c.loop-col.col + 1 < length c.loop-col.sums = lt_eq (le_lt (next_le (lt_up c.loop-col-test.true (eq_le c.requires.last (c.args.region.now.shape.within c.args.above.now.row)))) c.requires.sums) c.loop-col.auto.sums in
+    let at : c.loop-col.col + 1 < length c.loop-col.sums =
+    lt_eq (le_lt (next_le (lt_up c.loop-col-test.true
+    (eq_le c.requires.last (c.args.region.now.shape.within c.args.above.now.row)))) c.requires.sums)
+    c.loop-col.auto.sums in
     search (rules, at)

@@ -17,10 +17,14 @@ plus-sum-requires g c =
     let cost = g.C.Cost.value in
     let first = c.args.first in
     let at : first ≤ c.args.region.now.width = le_le c.requires.within (c.args.region.now.shape.within x) in
-    let u = read_is value c.args.sums.now first c.index-sums-first.result c.index-sums-first.is (le_lt at c.requires.sums) in
-    let fits = cost_fits g.C.Sum.Amount.MOST p (arcs p) (bound_at c.args.region.now.lo.now) (last_at c.args.region.now.hi.now) x first c.args.region.now.start c.args.left (get_or (map value c.args.sums.now) first 0) (cost c.down-down.result)
+    let u = read_is value c.args.sums.now first c.index-sums-first.result c.index-sums-first.is
+    (le_lt at c.requires.sums) in
+    let fits = cost_fits g.C.Sum.Amount.MOST p (arcs p) (bound_at c.args.region.now.lo.now)
+    (last_at c.args.region.now.hi.now) x first c.args.region.now.start c.args.left
+    (get_or (map value c.args.sums.now) first 0) (cost c.down-down.result)
     (lt_lt c.requires.row c.requires.end) (le_le at c.requires.width) c.down-down.ensures.small
-    (c.requires.reached first (max_sinks _ _ _ _ c.requires.first (c.args.region.now.shape.sinks x)) c.requires.within) in
+    (c.requires.reached first (max_sinks _ _ _ _ c.requires.first (c.args.region.now.shape.sinks x)) c.requires.within)
+    in
     sum_eq _ _ _ _ u fits
 
 pub returns : goal.returns
@@ -31,18 +35,31 @@ returns g c =
     let cost = g.C.Cost.value in
     let first = c.args.first in
     let at : first ≤ c.args.region.now.width = le_le c.requires.within (c.args.region.now.shape.within x) in
-    let u = read_is value c.args.sums.now first c.index-sums-first.result c.index-sums-first.is (le_lt at c.requires.sums) in
+    let u = read_is value c.args.sums.now first c.index-sums-first.result c.index-sums-first.is
+    (le_lt at c.requires.sums) in
     let v = c.down-down.ensures.value in
-    let sum : value c.plus-sum.result ≡ get_or (map value c.args.sums.now) first 0 + cost c.down-down.result = c.plus-sum.ensures ∙ ap (λ (k : ℕ). k + cost c.down-down.result) u in
-    let all = entered (largest g.C.Sum.Amount.MOST p) (arcs p) (bound_at c.args.region.now.lo.now) (last_at c.args.region.now.hi.now) c.args.region.now.start c.args.left x first (cost c.down-down.result) (map value c.args.sums.now)
-    (lt_eq (le_lt at c.requires.sums) (length-map c.args.sums.now value)) c.requires.above c.requires.first (c.args.region.now.shape.sinks x) c.requires.within v c.down-down.ensures.small c.requires.reached in
-    record { reached = rw (map-set, sum) all.0; after = rw (map-set, sum) all.1; count = one_step _ _ c.down-down.ensures.count }
+    let sum : value c.plus-sum.result ≡ get_or (map value c.args.sums.now) first 0 + cost c.down-down.result =
+    c.plus-sum.ensures ∙ ap (λ (k : ℕ). k + cost c.down-down.result) u in
+    let all = entered (largest g.C.Sum.Amount.MOST p) (arcs p) (bound_at c.args.region.now.lo.now)
+    (last_at c.args.region.now.hi.now) c.args.region.now.start c.args.left x first (cost c.down-down.result)
+    (map value c.args.sums.now)
+    (lt_eq (le_lt at c.requires.sums) (length-map c.args.sums.now value)) c.requires.above c.requires.first
+    (c.args.region.now.shape.sinks x) c.requires.within v c.down-down.ensures.small c.requires.reached in
+    record {
+      reached = rw (map-set, sum) all.0;
+      after = rw (map-set, sum) all.1;
+      count =
+          one_step _ _ c.down-down.ensures.count;
+    }
 
 pub down-down-requires : goal.down-down-requires
-down-down-requires g c = le_le (le_le c.requires.within (c.args.region.now.shape.within c.args.above.now.row)) c.requires.width
+down-down-requires g c = le_le (le_le c.requires.within (c.args.region.now.shape.within c.args.above.now.row))
+    c.requires.width
 
 pub bounds-sums-first : goal.bounds-sums-first
-bounds-sums-first g c = le_lt (le_le c.requires.within (c.args.region.now.shape.within c.args.above.now.row)) c.requires.sums
+bounds-sums-first g c = le_lt (le_le c.requires.within (c.args.region.now.shape.within c.args.above.now.row))
+    c.requires.sums
 
 pub bounds-sums-first-2 : goal.bounds-sums-first-2
-bounds-sums-first-2 g c = le_lt (le_le c.requires.within (c.args.region.now.shape.within c.args.above.now.row)) c.requires.sums
+bounds-sums-first-2 g c = le_lt (le_le c.requires.within (c.args.region.now.shape.within c.args.above.now.row))
+    c.requires.sums

@@ -17,10 +17,18 @@ loop-row-init g c =
     let hi = last_at c.args.region.now.hi.now in
     let i = c.args.region.now.start in
     let j = c.args.left in
-    let reached = reached_at g.C.Sum.Amount.MOST p c.row-from.result.strip lo hi i j i i (map g.C.Sum.Amount.value c.first_row.new.sums) (hi i) (hi i) (sym c.row-from.ensures.strip) refl (le_same (hi i)) c.first_row.ensures.reached in
+    let reached = reached_at g.C.Sum.Amount.MOST p c.row-from.result.strip lo hi i j i i
+    (map g.C.Sum.Amount.value c.first_row.new.sums) (hi i) (hi i) (sym c.row-from.ensures.strip) refl
+    (le_same (hi i)) c.first_row.ensures.reached in
     record {
       reached = reached;
-      ends = rw map-set (ends_first (largest g.C.Sum.Amount.MOST p) (arcs p) lo hi i j c.args.region.now.width (map g.C.Sum.Amount.value c.first_row.new.sums) (map g.C.Sum.Amount.value c.args.ends.now) (g.C.Sum.Amount.value c.index-sums-width.result) (read_is g.C.Sum.Amount.value c.first_row.new.sums c.args.region.now.width c.index-sums-width.result c.index-sums-width.is (lt_eq c.requires.sums c.first_row.auto.sums)) (lt_eq (le_lt c.args.region.now.order c.requires.ends) (length-map c.args.ends.now g.C.Sum.Amount.value)) (max_up (le_le c.requires.from c.requires.left) c.requires.left) reached);
+      ends = rw map-set (ends_first (largest g.C.Sum.Amount.MOST p) (arcs p) lo hi i j c.args.region.now.width
+          (map g.C.Sum.Amount.value c.first_row.new.sums) (map g.C.Sum.Amount.value c.args.ends.now)
+          (g.C.Sum.Amount.value c.index-sums-width.result)
+          (read_is g.C.Sum.Amount.value c.first_row.new.sums c.args.region.now.width c.index-sums-width.result
+          c.index-sums-width.is (lt_eq c.requires.sums c.first_row.auto.sums))
+          (lt_eq (le_lt c.args.region.now.order c.requires.ends) (length-map c.args.ends.now g.C.Sum.Amount.value))
+          (max_up (le_le c.requires.from c.requires.left) c.requires.left) reached);
       left = c.requires.left;
       count = first_count _ _ _ _ _ _ c.first_row.ensures.count (area_one (λ x. max (lo x) j) hi i) c.requires.from;
     }
@@ -30,7 +38,9 @@ next_row-requires-clause-reached g c =
     let hi = last_at c.args.region.now.hi.now in
     let row = c.loop-row.row in
     let same : c.row-above.result.row ≡ row = c.row-above.ensures.row in
-    reached_at g.C.Sum.Amount.MOST c.row-above.result.strip c.args.strip.now (bound_at c.args.region.now.lo.now) hi c.args.region.now.start c.args.left c.row-above.result.row row (map g.C.Sum.Amount.value c.loop-row.sums) (hi c.row-above.result.row) (hi row) c.row-above.ensures.strip same
+    reached_at g.C.Sum.Amount.MOST c.row-above.result.strip c.args.strip.now (bound_at c.args.region.now.lo.now) hi
+    c.args.region.now.start c.args.left c.row-above.result.row row (map g.C.Sum.Amount.value c.loop-row.sums)
+    (hi c.row-above.result.row) (hi row) c.row-above.ensures.strip same
     (eq_up (ap hi same)) c.loop-row.invariant.reached
 
 pub loop-row-preserved : goal.loop-row-preserved
@@ -44,16 +54,27 @@ loop-row-preserved g c =
     let above = c.row-above.result.row in
     let same : above ≡ row = c.row-above.ensures.row in
     let next : row + 1 ≡ above + 1 = ap (λ (k : ℕ). k + 1) (sym same) in
-    let reached = reached_at g.C.Sum.Amount.MOST p c.row-above.result.strip lo hi i j (row + 1) (above + 1) (map g.C.Sum.Amount.value c.next_row.new.sums) (hi (row + 1)) (hi (above + 1)) (sym c.row-above.ensures.strip) next (eq_up (ap hi next)) c.next_row.ensures.reached in
-    let size : length (map g.C.Sum.Amount.value c.loop-row.ends) ≡ length c.args.ends.now = length-map c.loop-row.ends g.C.Sum.Amount.value ∙ c.loop-row.auto.ends ∙ length-set c.args.ends.now i c.index-sums-width.result in
-    let last = read_is g.C.Sum.Amount.value c.next_row.new.sums c.args.region.now.width c.index-sums-width-in-loop-row.result c.index-sums-width-in-loop-row.is (lt_eq (lt_eq (lt_eq c.requires.sums c.first_row.auto.sums) c.loop-row.auto.sums) c.next_row.auto.sums) in
+    let reached = reached_at g.C.Sum.Amount.MOST p c.row-above.result.strip lo hi i j (row + 1) (above + 1)
+    (map g.C.Sum.Amount.value c.next_row.new.sums) (hi (row + 1)) (hi (above + 1)) (sym c.row-above.ensures.strip)
+    next (eq_up (ap hi next)) c.next_row.ensures.reached in
+    let size : length (map g.C.Sum.Amount.value c.loop-row.ends) ≡ length c.args.ends.now =
+    length-map c.loop-row.ends g.C.Sum.Amount.value ∙ c.loop-row.auto.ends
+    ∙ length-set c.args.ends.now i c.index-sums-width.result in
+    let last = read_is g.C.Sum.Amount.value c.next_row.new.sums c.args.region.now.width
+    c.index-sums-width-in-loop-row.result c.index-sums-width-in-loop-row.is
+    (lt_eq (lt_eq (lt_eq c.requires.sums c.first_row.auto.sums) c.loop-row.auto.sums) c.next_row.auto.sums) in
     let left : j ≤ hi (row + 1) = le_le c.loop-row.invariant.left (c.args.region.now.shape.rises row) in
     record {
       reached = reached;
-      ends = rw map-set (ends_more (largest g.C.Sum.Amount.MOST p) (arcs p) lo hi i j c.args.region.now.width row (map g.C.Sum.Amount.value c.next_row.new.sums) (map g.C.Sum.Amount.value c.loop-row.ends) (g.C.Sum.Amount.value c.index-sums-width-in-loop-row.result) last (lt_eq (le_lt (next_le c.loop-row-test.true) c.requires.ends) size)
-          (max_up (row_some lo hi c.args.region.now.width c.args.region.now.end (row + 1) c.args.region.now.shape) left) reached c.loop-row.invariant.ends);
+      ends = rw map-set (ends_more (largest g.C.Sum.Amount.MOST p) (arcs p) lo hi i j c.args.region.now.width row
+          (map g.C.Sum.Amount.value c.next_row.new.sums) (map g.C.Sum.Amount.value c.loop-row.ends)
+          (g.C.Sum.Amount.value c.index-sums-width-in-loop-row.result) last
+          (lt_eq (le_lt (next_le c.loop-row-test.true) c.requires.ends) size)
+          (max_up (row_some lo hi c.args.region.now.width c.args.region.now.end (row + 1) c.args.region.now.shape) left)
+          reached c.loop-row.invariant.ends);
       left = left;
-      count = more_count _ _ _ _ _ _ _ c.loop-row.invariant.count c.next_row.ensures.count (area_next (λ x. max (lo x) j) hi i row c.loop-row.auto.row) (ap (λ (k : ℕ). hi k + 1 - max (lo k) j) next);
+      count = more_count _ _ _ _ _ _ _ c.loop-row.invariant.count c.next_row.ensures.count
+          (area_next (λ x. max (lo x) j) hi i row c.loop-row.auto.row) (ap (λ (k : ℕ). hi k + 1 - max (lo k) j) next);
     }
 
 pub returns-clause-ends : goal.returns-clause-ends
@@ -61,9 +82,12 @@ returns-clause-ends g c = λ y from to is. c.loop-row.invariant.ends y from (le_
 
 pub returns-clause-count : goal.returns-clause-count
 returns-clause-count g c =
-    let e : c.loop-row.row ≡ c.args.region.now.end = le_same_of (c.loop-row.auto.row-end c.args.region.now.order) c.loop-row-test.false in
+    let e : c.loop-row.row ≡ c.args.region.now.end =
+    le_same_of (c.loop-row.auto.row-end c.args.region.now.order) c.loop-row-test.false in
     let lo : ℕ → ℕ = λ x. max (bound_at c.args.region.now.lo.now x) c.args.left in
-    count_to _ _ _ _ c.loop-row.invariant.count (ap (λ (k : ℕ). area lo (last_at c.args.region.now.hi.now) c.args.region.now.start (k + 1 - c.args.region.now.start)) e)
+    count_to _ _ _ _ c.loop-row.invariant.count
+    (ap (λ (k : ℕ). area lo (last_at c.args.region.now.hi.now) c.args.region.now.start
+    (k + 1 - c.args.region.now.start)) e)
 
 pub row-from-requires : goal.row-from-requires
 row-from-requires g c = le_lt c.args.region.now.order c.requires.end
@@ -90,7 +114,8 @@ pub next_row-requires-clause-strip : goal.next_row-requires-clause-strip
 next_row-requires-clause-strip g c = c.row-from-in-loop-row.ensures.strip ∙ sym c.row-above.ensures.strip
 
 pub next_row-requires-clause-next : goal.next_row-requires-clause-next
-next_row-requires-clause-next g c = c.row-from-in-loop-row.ensures.row ∙ ap (λ (k : ℕ). k + 1) (sym c.row-above.ensures.row)
+next_row-requires-clause-next g c = c.row-from-in-loop-row.ensures.row
+    ∙ ap (λ (k : ℕ). k + 1) (sym c.row-above.ensures.row)
 
 pub next_row-requires-clause-end : goal.next_row-requires-clause-end
 next_row-requires-clause-end g c = rw c.row-above.ensures.strip c.requires.end
@@ -108,10 +133,13 @@ pub next_row-requires-clause-row : goal.next_row-requires-clause-row
 next_row-requires-clause-row g c = eq_lt c.row-above.ensures.row c.loop-row-test.true
 
 pub next_row-requires-clause-left : goal.next_row-requires-clause-left
-next_row-requires-clause-left g c = le_eq c.loop-row.invariant.left (ap (last_at c.args.region.now.hi.now) c.row-above.ensures.row)
+next_row-requires-clause-left g c =
+    le_eq c.loop-row.invariant.left (ap (last_at c.args.region.now.hi.now) c.row-above.ensures.row)
 
 pub bounds-sums-width-in-loop-row : goal.bounds-sums-width-in-loop-row
-bounds-sums-width-in-loop-row g c = lt_eq (lt_eq (lt_eq c.requires.sums c.first_row.auto.sums) c.loop-row.auto.sums) c.next_row.auto.sums
+bounds-sums-width-in-loop-row g c =
+    lt_eq (lt_eq (lt_eq c.requires.sums c.first_row.auto.sums) c.loop-row.auto.sums) c.next_row.auto.sums
 
 pub bounds-ends-row : goal.bounds-ends-row
-bounds-ends-row g c = lt_eq (le_lt (next_le c.loop-row-test.true) c.requires.ends) (c.loop-row.auto.ends ∙ length-set c.args.ends.now c.args.region.now.start c.index-sums-width.result)
+bounds-ends-row g c = lt_eq (le_lt (next_le c.loop-row-test.true) c.requires.ends)
+    (c.loop-row.auto.ends ∙ length-set c.args.ends.now c.args.region.now.start c.index-sums-width.result)

@@ -10,19 +10,28 @@ use Rattle.row_paths.proofs.offsets.row_offsets.Goals as goal
 pub next_offset-offset-requires-clause-offset : goal.next_offset-offset-requires-clause-offset
 next_offset-offset-requires-clause-offset c =
     let m : c.rows-rows.result ≡ rows c.args.layout.now = search rules in
-    let b = offset_fits c.args.layout.now c.loop-row.row c.rows-rows.ensures.strip (omega (arith, c.loop-row-test.true)) in
+    let b = offset_fits c.args.layout.now c.loop-row.row c.rows-rows.ensures.strip (omega (arith, c.loop-row-test.true))
+    in
     let e = ap unsigned_abs c.loop-row.invariant.offset in
     omega (arith, b, e)
 
 pub next_offset-offset-requires-clause-to_next : goal.next_offset-offset-requires-clause-to_next
 next_offset-offset-requires-clause-to_next c =
     let m : c.rows-rows.result ≡ rows c.args.layout.now = search rules in
-    omega (arith, c.requires.are (2 * c.loop-row.row + 1) (omega (arith, c.loop-row-test.true)), cost_small c.args.layout.now (2 * c.loop-row.row + 1) c.rows-rows.ensures.strip)
+    omega (
+      arith,
+      c.requires.are (2 * c.loop-row.row + 1) (omega (arith, c.loop-row-test.true)),
+      cost_small c.args.layout.now (2 * c.loop-row.row + 1) c.rows-rows.ensures.strip,
+    )
 
 pub next_offset-offset-requires-clause-at_next : goal.next_offset-offset-requires-clause-at_next
 next_offset-offset-requires-clause-at_next c =
     let m : c.rows-rows.result ≡ rows c.args.layout.now = search rules in
-    omega (arith, c.requires.are (2 * c.loop-row.row + 2) (omega (arith, c.loop-row-test.true)), cost_small c.args.layout.now (2 * c.loop-row.row + 2) c.rows-rows.ensures.strip)
+    omega (
+      arith,
+      c.requires.are (2 * c.loop-row.row + 2) (omega (arith, c.loop-row-test.true)),
+      cost_small c.args.layout.now (2 * c.loop-row.row + 2) c.rows-rows.ensures.strip,
+    )
 
 pub loop-row-preserved : goal.loop-row-preserved
 loop-row-preserved c =
@@ -34,8 +43,18 @@ loop-row-preserved c =
     let next = c.requires.are (2 * row + 1) (omega (arith, c.loop-row-test.true)) ∙ cost_to_next a m n row in
     let here = c.requires.are (2 * row + 2) (omega (arith, c.loop-row-test.true)) ∙ cost_at_next a m n row in
     let f : SFits w128 c.next_offset-offset.result = search rules in
-    let is : to_z w128 (of_z w128 c.next_offset-offset.result) ≡ offset a m n (row + 1) = omega (arith, ints, c.next_offset-offset.ensures, c.loop-row.invariant.offset, offset_next a m n row, next, here) in
+    let is : to_z w128 (of_z w128 c.next_offset-offset.result) ≡ offset a m n (row + 1) =
+    omega (
+      arith,
+      ints,
+      c.next_offset-offset.ensures,
+      c.loop-row.invariant.offset,
+      offset_next a m n row,
+      next,
+      here,
+    ) in
     record {
-      offsets = offsets_more a m n (row + 1) _ c.loop-row.offsets.items c.push-in-loop-row.new.self.items c.in_ok-push-2.ensures.items is c.loop-row.invariant.offsets;
+      offsets = offsets_more a m n (row + 1) _ c.loop-row.offsets.items c.push-in-loop-row.new.self.items
+          c.in_ok-push-2.ensures.items is c.loop-row.invariant.offsets;
       offset = is;
     }

@@ -12,28 +12,37 @@ use Rattle.row_paths.proofs.searches.choose.Goals as goal
 
 pub bounds-sums-last : goal.bounds-sums-last
 bounds-sums-last g c =
-    let hi_is = bound_next c.args.region.now.hi.now c.args.from.now.row c.row-row.result c.args.region.now.end c.row-row.ensures c.requires.row c.args.region.now.hi_fits in
+    let hi_is = bound_next c.args.region.now.hi.now c.args.from.now.row c.row-row.result c.args.region.now.end
+    c.row-row.ensures c.requires.row c.args.region.now.hi_fits in
     bound_in hi_is (c.args.region.now.shape.within c.args.from.now.row) c.requires.sums
 
 pub bounds-sums-col : goal.bounds-sums-col
 bounds-sums-col g c =
-    let hi_is = bound_next c.args.region.now.hi.now c.args.from.now.row c.row-row.result c.args.region.now.end c.row-row.ensures c.requires.row c.args.region.now.hi_fits in
-    lt_eq (lt_lt (lt_up (col_below c.loop-col-test.true (le_eq c.loop-col.auto.col hi_is)) (c.args.region.now.shape.within c.args.from.now.row)) c.requires.sums) c.loop-col.auto.sums
+    let hi_is = bound_next c.args.region.now.hi.now c.args.from.now.row c.row-row.result c.args.region.now.end
+    c.row-row.ensures c.requires.row c.args.region.now.hi_fits in
+    lt_eq (lt_lt (lt_up (col_below c.loop-col-test.true (le_eq c.loop-col.auto.col hi_is))
+    (c.args.region.now.shape.within c.args.from.now.row)) c.requires.sums) c.loop-col.auto.sums
 
 pub bounds-sums-col-in-loop-col : goal.bounds-sums-col-in-loop-col
 bounds-sums-col-in-loop-col g c =
-    let hi_is = bound_next c.args.region.now.hi.now c.args.from.now.row c.row-row.result c.args.region.now.end c.row-row.ensures c.requires.row c.args.region.now.hi_fits in
-    lt_eq (lt_lt (lt_up (col_below c.loop-col-test.true (le_eq c.loop-col.auto.col hi_is)) (c.args.region.now.shape.within c.args.from.now.row)) c.requires.sums) c.loop-col.auto.sums
+    let hi_is = bound_next c.args.region.now.hi.now c.args.from.now.row c.row-row.result c.args.region.now.end
+    c.row-row.ensures c.requires.row c.args.region.now.hi_fits in
+    lt_eq (lt_lt (lt_up (col_below c.loop-col-test.true (le_eq c.loop-col.auto.col hi_is))
+    (c.args.region.now.shape.within c.args.from.now.row)) c.requires.sums) c.loop-col.auto.sums
 
 pub down-down-requires : goal.down-down-requires
 down-down-requires g c =
-    let hi_is = bound_next c.args.region.now.hi.now c.args.from.now.row c.row-row.result c.args.region.now.end c.row-row.ensures c.requires.row c.args.region.now.hi_fits in
-    lt_le (lt_up (lt_up (col_below c.loop-col-test.true (le_eq c.loop-col.auto.col hi_is)) (c.args.region.now.shape.within c.args.from.now.row)) c.requires.width)
+    let hi_is = bound_next c.args.region.now.hi.now c.args.from.now.row c.row-row.result c.args.region.now.end
+    c.row-row.ensures c.requires.row c.args.region.now.hi_fits in
+    lt_le (lt_up (lt_up (col_below c.loop-col-test.true (le_eq c.loop-col.auto.col hi_is))
+    (c.args.region.now.shape.within c.args.from.now.row)) c.requires.width)
 
 pub right-right-requires : goal.right-right-requires
 right-right-requires g c =
-    let hi_is = bound_next c.args.region.now.hi.now c.args.from.now.row c.row-row.result c.args.region.now.end c.row-row.ensures c.requires.row c.args.region.now.hi_fits in
-    lt_up (lt_up (col_below c.loop-col-test.true (le_eq c.loop-col.auto.col hi_is)) (c.args.region.now.shape.within c.args.from.now.row)) c.requires.width
+    let hi_is = bound_next c.args.region.now.hi.now c.args.from.now.row c.row-row.result c.args.region.now.end
+    c.row-row.ensures c.requires.row c.args.region.now.hi_fits in
+    lt_up (lt_up (col_below c.loop-col-test.true (le_eq c.loop-col.auto.col hi_is))
+    (c.args.region.now.shape.within c.args.from.now.row)) c.requires.width
 
 pub plus-by_v-requires : goal.plus-by_v-requires
 plus-by_v-requires g c =
@@ -46,12 +55,17 @@ plus-by_v-requires g c =
     let end = c.args.region.now.end in
     let n = c.args.region.now.width in
     let col : ℕ = c.loop-col.col - 1 in
-    let lo_is = bound_next c.args.region.now.lo.now x c.row-row.result c.args.region.now.end c.row-row.ensures c.requires.row c.args.region.now.lo_fits in
-    let hi_is = bound_next c.args.region.now.hi.now x c.row-row.result c.args.region.now.end c.row-row.ensures c.requires.row c.args.region.now.hi_fits in
+    let lo_is = bound_next c.args.region.now.lo.now x c.row-row.result c.args.region.now.end c.row-row.ensures
+    c.requires.row c.args.region.now.lo_fits in
+    let hi_is = bound_next c.args.region.now.hi.now x c.row-row.result c.args.region.now.end c.row-row.ensures
+    c.requires.row c.args.region.now.hi_fits in
     let to : col < hi x = col_below c.loop-col-test.true (le_eq c.loop-col.auto.col hi_is) in
-    let u = read_is value c.loop-col.sums col c.index-sums-col.result c.index-sums-col.is (lt_eq (lt_lt (lt_up to (c.args.region.now.shape.within x)) c.requires.sums) c.loop-col.auto.sums) in
+    let u = read_is value c.loop-col.sums col c.index-sums-col.result c.index-sums-col.is
+    (lt_eq (lt_lt (lt_up to (c.args.region.now.shape.within x)) c.requires.sums) c.loop-col.auto.sums) in
     let below = c.loop-col.invariant.below col (col_from lo_is c.loop-col-test.true) (col_less c.loop-col-test.true) in
-    let fits = cost_fits g.C.Sum.Amount.MOST p (arcs p) lo hi end n (x + 1) col (get_or (map value c.loop-col.sums) col 0) (cost c.down-down.result) c.requires.end c.requires.width c.down-down.ensures.small below in
+    let fits = cost_fits g.C.Sum.Amount.MOST p (arcs p) lo hi end n (x + 1) col
+    (get_or (map value c.loop-col.sums) col 0) (cost c.down-down.result) c.requires.end c.requires.width
+    c.down-down.ensures.small below in
     sum_eq _ _ _ _ u fits
 
 pub plus-by_h-requires : goal.plus-by_h-requires
@@ -60,16 +74,23 @@ plus-by_h-requires g c =
     let x = c.args.from.now.row in
     let value = g.C.Sum.Amount.value in
     let cost = g.C.Cost.value in
-    let hi_is = bound_next c.args.region.now.hi.now x c.row-row.result c.args.region.now.end c.row-row.ensures c.requires.row c.args.region.now.hi_fits in
-    filled_fits g.C.Sum.Amount.MOST p (arcs p) (bound_at c.args.region.now.lo.now) (last_at c.args.region.now.hi.now) c.args.region.now.end c.args.region.now.width x c.loop-col.col (value c.loop-col.cost) (cost c.right-right.result)
-    (map value c.loop-col.sums) c.args.ways.now c.loop-col.ways c.requires.end c.requires.width (le_eq c.loop-col.auto.col hi_is) c.right-right.ensures.small c.loop-col.invariant.filled
+    let hi_is = bound_next c.args.region.now.hi.now x c.row-row.result c.args.region.now.end c.row-row.ensures
+    c.requires.row c.args.region.now.hi_fits in
+    filled_fits g.C.Sum.Amount.MOST p (arcs p) (bound_at c.args.region.now.lo.now) (last_at c.args.region.now.hi.now)
+    c.args.region.now.end c.args.region.now.width x c.loop-col.col (value c.loop-col.cost)
+    (cost c.right-right.result)
+    (map value c.loop-col.sums) c.args.ways.now c.loop-col.ways c.requires.end c.requires.width
+    (le_eq c.loop-col.auto.col hi_is) c.right-right.ensures.small c.loop-col.invariant.filled
 
 pub bounds-ways-at : goal.bounds-ways-at
 bounds-ways-at g c =
     let x = c.args.from.now.row in
-    let hi_is = bound_next c.args.region.now.hi.now x c.row-row.result c.args.region.now.end c.row-row.ensures c.requires.row c.args.region.now.hi_fits in
-    place_fits c.row-row.result c.args.region.now.end (c.loop-col.col - 1) c.args.region.now.width c.args.region.now.width (length c.loop-col.ways) refl (eq_le c.row-row.ensures (lt_le c.requires.row))
-    (lt_le (lt_up (col_below c.loop-col-test.true (le_eq c.loop-col.auto.col hi_is)) (c.args.region.now.shape.within x))) (le_eq c.requires.ways c.loop-col.auto.ways)
+    let hi_is = bound_next c.args.region.now.hi.now x c.row-row.result c.args.region.now.end c.row-row.ensures
+    c.requires.row c.args.region.now.hi_fits in
+    place_fits c.row-row.result c.args.region.now.end (c.loop-col.col - 1) c.args.region.now.width
+    c.args.region.now.width (length c.loop-col.ways) refl (eq_le c.row-row.ensures (lt_le c.requires.row))
+    (lt_le (lt_up (col_below c.loop-col-test.true (le_eq c.loop-col.auto.col hi_is))
+    (c.args.region.now.shape.within x))) (le_eq c.requires.ways c.loop-col.auto.ways)
 
 pub loop-col-preserved : goal.loop-col-preserved
 loop-col-preserved g c =
@@ -83,8 +104,10 @@ loop-col-preserved g c =
     let n = c.args.region.now.width in
     let x = c.args.from.now.row in
     let col : ℕ = c.loop-col.col - 1 in
-    let lo_is = bound_next c.args.region.now.lo.now x c.row-row.result c.args.region.now.end c.row-row.ensures c.requires.row c.args.region.now.lo_fits in
-    let hi_is = bound_next c.args.region.now.hi.now x c.row-row.result c.args.region.now.end c.row-row.ensures c.requires.row c.args.region.now.hi_fits in
+    let lo_is = bound_next c.args.region.now.lo.now x c.row-row.result c.args.region.now.end c.row-row.ensures
+    c.requires.row c.args.region.now.lo_fits in
+    let hi_is = bound_next c.args.region.now.hi.now x c.row-row.result c.args.region.now.end c.row-row.ensures
+    c.requires.row c.args.region.now.hi_fits in
     let before : c.loop-col.col ≡ col + 1 = col_again c.loop-col-test.true in
     let within : hi x ≤ n = c.args.region.now.shape.within x in
     let to : col < hi x = col_below c.loop-col-test.true (le_eq c.loop-col.auto.col hi_is) in
@@ -92,34 +115,48 @@ loop-col-preserved g c =
     let u = read_is value c.loop-col.sums col c.index-sums-col.result c.index-sums-col.is here in
     let y = c.down-down.ensures.value in
     let z = c.right-right.ensures.value in
-    let below = subst (IsPlaceCost b (arcs p) lo hi end n (x + 1) col) (sym u) (c.loop-col.invariant.below col (col_from lo_is c.loop-col-test.true) (col_less c.loop-col-test.true)) in
-    let fits = place_fits c.row-row.result end col n n (length c.loop-col.ways) refl (eq_le c.row-row.ensures (lt_le c.requires.row)) (lt_le (lt_up to within)) (le_eq c.requires.ways c.loop-col.auto.ways) in
+    let below = subst (IsPlaceCost b (arcs p) lo hi end n (x + 1) col) (sym u)
+    (c.loop-col.invariant.below col (col_from lo_is c.loop-col-test.true) (col_less c.loop-col-test.true)) in
+    let fits = place_fits c.row-row.result end col n n (length c.loop-col.ways) refl
+    (eq_le c.row-row.ensures (lt_le c.requires.row)) (lt_le (lt_up to within))
+    (le_eq c.requires.ways c.loop-col.auto.ways) in
     record {
-      filled = rw map-set (filled_both b (arcs p) lo hi end n x col (c.row-row.result * (n + 1) + col) (value c.loop-col.cost) (value c.index-sums-col.result) (value c.least-cost.result) (cost c.down-down.result) (cost c.right-right.result) _ (map value c.loop-col.sums) c.args.ways.now c.loop-col.ways
-          (lt_eq here (length-map c.loop-col.sums value)) (place_of x c.row-row.result col n n c.row-row.ensures refl) fits c.requires.row to within
+      filled = rw map-set (filled_both b (arcs p) lo hi end n x col (c.row-row.result * (n + 1) + col)
+          (value c.loop-col.cost) (value c.index-sums-col.result) (value c.least-cost.result) (cost c.down-down.result)
+          (cost c.right-right.result) _ (map value c.loop-col.sums) c.args.ways.now c.loop-col.ways
+          (lt_eq here (length-map c.loop-col.sums value)) (place_of x c.row-row.result col n n c.row-row.ensures refl)
+          fits c.requires.row to within
           y c.down-down.ensures.small z c.right-right.ensures.small below
-          (c.least-cost.ensures ∙ ap₂ min c.plus-by_v.ensures c.plus-by_h.ensures) (c.is_at_most.ensures ∙ ap₂ leb c.plus-by_v.ensures c.plus-by_h.ensures)
-          (filled_at b (arcs p) lo hi end n x c.loop-col.col (col + 1) (value c.loop-col.cost) (map value c.loop-col.sums) c.args.ways.now c.loop-col.ways before c.loop-col.invariant.filled));
-      below = rw map-set (before_less b (arcs p) lo hi end n (x + 1) col (value c.least-cost.result) c.loop-col.col (map value c.loop-col.sums) (lt_le (col_less c.loop-col-test.true)) c.loop-col.invariant.below);
+          (c.least-cost.ensures ∙ ap₂ min c.plus-by_v.ensures c.plus-by_h.ensures)
+          (c.is_at_most.ensures ∙ ap₂ leb c.plus-by_v.ensures c.plus-by_h.ensures)
+          (filled_at b (arcs p) lo hi end n x c.loop-col.col (col + 1) (value c.loop-col.cost)
+          (map value c.loop-col.sums) c.args.ways.now c.loop-col.ways before c.loop-col.invariant.filled));
+      below = rw map-set (before_less b (arcs p) lo hi end n (x + 1) col (value c.least-cost.result) c.loop-col.col
+          (map value c.loop-col.sums) (lt_le (col_less c.loop-col-test.true)) c.loop-col.invariant.below);
       low = col_low (get_or c.args.region.now.hi.now (c.row-row.result + 1) 0) c.loop-col-test.true;
-      count = left_two _ _ _ _ _ _ _ c.loop-col.invariant.count c.down-down.ensures.count c.right-right.ensures.count c.loop-col-test.true c.loop-col.auto.col;
+      count = left_two _ _ _ _ _ _ _ c.loop-col.invariant.count c.down-down.ensures.count c.right-right.ensures.count
+          c.loop-col-test.true c.loop-col.auto.col;
     }
 
 pub returns-clause-costs : goal.returns-clause-costs
 returns-clause-costs g c =
-    let lo_is = bound_next c.args.region.now.lo.now c.args.from.now.row c.row-row.result c.args.region.now.end c.row-row.ensures c.requires.row c.args.region.now.lo_fits in
+    let lo_is = bound_next c.args.region.now.lo.now c.args.from.now.row c.row-row.result c.args.region.now.end
+    c.row-row.ensures c.requires.row c.args.region.now.lo_fits in
     λ k from to. c.loop-col.invariant.filled.costs k (col_end lo_is from c.loop-col-test.false) to
 
 pub returns-clause-ways : goal.returns-clause-ways
 returns-clause-ways g c =
-    let lo_is = bound_next c.args.region.now.lo.now c.args.from.now.row c.row-row.result c.args.region.now.end c.row-row.ensures c.requires.row c.args.region.now.lo_fits in
+    let lo_is = bound_next c.args.region.now.lo.now c.args.from.now.row c.row-row.result c.args.region.now.end
+    c.row-row.ensures c.requires.row c.args.region.now.lo_fits in
     λ k from to. c.loop-col.invariant.filled.ways k (col_end lo_is from c.loop-col-test.false) to
 
 pub returns-clause-count : goal.returns-clause-count
 returns-clause-count g c =
     let x = c.args.from.now.row in
-    let lo_is = bound_next c.args.region.now.lo.now x c.row-row.result c.args.region.now.end c.row-row.ensures c.requires.row c.args.region.now.lo_fits in
-    let hi_is = bound_next c.args.region.now.hi.now x c.row-row.result c.args.region.now.end c.row-row.ensures c.requires.row c.args.region.now.hi_fits in
+    let lo_is = bound_next c.args.region.now.lo.now x c.row-row.result c.args.region.now.end c.row-row.ensures
+    c.requires.row c.args.region.now.lo_fits in
+    let hi_is = bound_next c.args.region.now.hi.now x c.row-row.result c.args.region.now.end c.row-row.ensures
+    c.requires.row c.args.region.now.hi_fits in
     left_all _ _ _ _ _ _ _ c.loop-col.invariant.count c.loop-col.invariant.low lo_is hi_is
 
 pub loop-col-init : goal.loop-col-init
@@ -129,9 +166,14 @@ loop-col-init g c =
     let hi = last_at c.args.region.now.hi.now in
     let first = get_or c.args.region.now.lo.now (c.row-row.result + 1) 0 in
     let last = get_or c.args.region.now.hi.now (c.row-row.result + 1) 0 in
-    let hi_is : hi x ≡ last = bound_next c.args.region.now.hi.now x c.row-row.result c.args.region.now.end c.row-row.ensures c.requires.row c.args.region.now.hi_fits in
+    let hi_is : hi x ≡ last = bound_next c.args.region.now.hi.now x c.row-row.result c.args.region.now.end
+    c.row-row.ensures c.requires.row c.args.region.now.hi_fits in
     record {
-      filled = filled_first g.C.Sum.Amount.value (largest g.C.Sum.Amount.MOST p) (arcs p) (bound_at c.args.region.now.lo.now) hi c.args.region.now.end c.args.region.now.width x (hi x) last c.args.sums.now c.index-sums-last.result c.args.ways.now hi_is c.index-sums-last.is (bound_in hi_is (c.args.region.now.shape.within c.args.from.now.row) c.requires.sums) c.requires.right c.requires.known;
+      filled = filled_first g.C.Sum.Amount.value (largest g.C.Sum.Amount.MOST p) (arcs p)
+          (bound_at c.args.region.now.lo.now) hi c.args.region.now.end c.args.region.now.width x (hi x) last
+          c.args.sums.now c.index-sums-last.result c.args.ways.now hi_is c.index-sums-last.is
+          (bound_in hi_is (c.args.region.now.shape.within c.args.from.now.row) c.requires.sums) c.requires.right
+          c.requires.known;
       below = λ k from to. c.requires.below k from (lt_eq to hi_is);
       low = low_first first last;
       count = none_left_of_two c.args.steps.now last;
@@ -142,18 +184,26 @@ returns-clause-rest g c = c.loop-col.invariant.filled.rest
 
 pub offset_bounds-sums-last : goal.offset_bounds-sums-last
 offset_bounds-sums-last g c =
-    let hi_is = bound_next c.args.region.now.hi.now c.args.from.now.row c.row-row.result c.args.region.now.end c.row-row.ensures c.requires.row c.args.region.now.hi_fits in
-    let at : get_or c.args.region.now.hi.now (c.row-row.result + 1) 0 < length c.args.sums.now = bound_in hi_is (c.args.region.now.shape.within c.args.from.now.row) c.requires.sums in
+    let hi_is = bound_next c.args.region.now.hi.now c.args.from.now.row c.row-row.result c.args.region.now.end
+    c.row-row.ensures c.requires.row c.args.region.now.hi_fits in
+    let at : get_or c.args.region.now.hi.now (c.row-row.result + 1) 0 < length c.args.sums.now =
+    bound_in hi_is (c.args.region.now.shape.within c.args.from.now.row) c.requires.sums in
     search (rules, at)
 
 pub offset_bounds-sums-col : goal.offset_bounds-sums-col
 offset_bounds-sums-col g c =
-    let hi_is = bound_next c.args.region.now.hi.now c.args.from.now.row c.row-row.result c.args.region.now.end c.row-row.ensures c.requires.row c.args.region.now.hi_fits in
-    let at : c.loop-col.col - 1 < length c.loop-col.sums = lt_eq (lt_lt (lt_up (col_below c.loop-col-test.true (le_eq c.loop-col.auto.col hi_is)) (c.args.region.now.shape.within c.args.from.now.row)) c.requires.sums) c.loop-col.auto.sums in
+    let hi_is = bound_next c.args.region.now.hi.now c.args.from.now.row c.row-row.result c.args.region.now.end
+    c.row-row.ensures c.requires.row c.args.region.now.hi_fits in
+    let at : c.loop-col.col - 1 < length c.loop-col.sums =
+    lt_eq (lt_lt (lt_up (col_below c.loop-col-test.true (le_eq c.loop-col.auto.col hi_is))
+    (c.args.region.now.shape.within c.args.from.now.row)) c.requires.sums) c.loop-col.auto.sums in
     search (rules, at)
 
 pub offset_bounds-sums-col-in-loop-col : goal.offset_bounds-sums-col-in-loop-col
 offset_bounds-sums-col-in-loop-col g c =
-    let hi_is = bound_next c.args.region.now.hi.now c.args.from.now.row c.row-row.result c.args.region.now.end c.row-row.ensures c.requires.row c.args.region.now.hi_fits in
-    let at : c.loop-col.col - 1 < length c.loop-col.sums = lt_eq (lt_lt (lt_up (col_below c.loop-col-test.true (le_eq c.loop-col.auto.col hi_is)) (c.args.region.now.shape.within c.args.from.now.row)) c.requires.sums) c.loop-col.auto.sums in
+    let hi_is = bound_next c.args.region.now.hi.now c.args.from.now.row c.row-row.result c.args.region.now.end
+    c.row-row.ensures c.requires.row c.args.region.now.hi_fits in
+    let at : c.loop-col.col - 1 < length c.loop-col.sums =
+    lt_eq (lt_lt (lt_up (col_below c.loop-col-test.true (le_eq c.loop-col.auto.col hi_is))
+    (c.args.region.now.shape.within c.args.from.now.row)) c.requires.sums) c.loop-col.auto.sums in
     search (rules, at)

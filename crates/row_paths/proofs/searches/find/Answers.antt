@@ -8,8 +8,12 @@ use Rattle.row_paths.proofs.searches.find.Goals as goal
 
 pub trace-requires-clause-known : goal.trace-requires-clause-known
 trace-requires-clause-known g c =
-    subst (λ (l : List Bool). HasAllWays (arcs c.args.strip.now) (bound_at c.args.region.now.lo.now) (last_at c.args.region.now.hi.now) c.args.region.now.end (cols c.args.strip.now) l c.args.region.now.start) (sym c.deref.ensures.value)
-    (subst (λ (n : ℕ). HasAllWays (arcs c.args.strip.now) (bound_at c.args.region.now.lo.now) (last_at c.args.region.now.hi.now) c.args.region.now.end n c.fill_table.new.table.ways.items c.args.region.now.start) c.requires.width c.fill_table.ensures.ways)
+    subst (λ (l : List Bool). HasAllWays (arcs c.args.strip.now) (bound_at c.args.region.now.lo.now)
+    (last_at c.args.region.now.hi.now) c.args.region.now.end (cols c.args.strip.now) l c.args.region.now.start)
+    (sym c.deref.ensures.value)
+    (subst (λ (n : ℕ). HasAllWays (arcs c.args.strip.now) (bound_at c.args.region.now.lo.now)
+    (last_at c.args.region.now.hi.now) c.args.region.now.end n c.fill_table.new.table.ways.items
+    c.args.region.now.start) c.requires.width c.fill_table.ensures.ways)
 
 pub returns-clause-cost : goal.returns-clause-cost
 returns-clause-cost g c =
@@ -18,5 +22,9 @@ returns-clause-cost g c =
     let hi = last_at c.args.region.now.hi.now in
     let end = c.args.region.now.end in
     let start = c.args.region.now.start in
-    let first = read_is g.C.Sum.Amount.value c.fill_table.new.table.starts.items start c.index.result.now c.index.ensures (omega (arith, c.fill_table.ensures.table.starts, c.requires.end, c.args.region.now.order)) in
-    found_cost a lo hi end (cols c.args.strip.now) start c.wide.result (λ e. subst₂ (λ (n x : ℕ). IsRegional a lo hi start 0 (end - start) (n - 0) x) c.requires.width (sym (c.wide.ensures ∙ first)) (c.fill_table.ensures.starts start (omega arith) c.args.region.now.order e)) c.requires.within
+    let first = read_is g.C.Sum.Amount.value c.fill_table.new.table.starts.items start c.index.result.now
+    c.index.ensures (omega (arith, c.fill_table.ensures.table.starts, c.requires.end, c.args.region.now.order)) in
+    found_cost a lo hi end (cols c.args.strip.now) start c.wide.result
+    (λ e. subst₂ (λ (n x : ℕ). IsRegional a lo hi start 0 (end - start) (n - 0) x) c.requires.width
+    (sym (c.wide.ensures ∙ first)) (c.fill_table.ensures.starts start (omega arith) c.args.region.now.order e))
+    c.requires.within

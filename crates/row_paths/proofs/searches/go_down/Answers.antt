@@ -11,24 +11,30 @@ use Rattle.row_paths.proofs.searches.go_down.Goals as goal
 
 pub bounds-sums-last : goal.bounds-sums-last
 bounds-sums-last g c =
-    let hi_is = bound_next c.args.region.now.hi.now c.args.from.now.row c.row-row.result c.args.region.now.end c.row-row.ensures c.requires.row c.args.region.now.hi_fits in
+    let hi_is = bound_next c.args.region.now.hi.now c.args.from.now.row c.row-row.result c.args.region.now.end
+    c.row-row.ensures c.requires.row c.args.region.now.hi_fits in
     bound_in hi_is (c.args.region.now.shape.within c.args.from.now.row) c.requires.sums
 
 pub bounds-sums-last-2 : goal.bounds-sums-last-2
 bounds-sums-last-2 g c =
-    let hi_is = bound_next c.args.region.now.hi.now c.args.from.now.row c.row-row.result c.args.region.now.end c.row-row.ensures c.requires.row c.args.region.now.hi_fits in
+    let hi_is = bound_next c.args.region.now.hi.now c.args.from.now.row c.row-row.result c.args.region.now.end
+    c.row-row.ensures c.requires.row c.args.region.now.hi_fits in
     bound_in hi_is (c.args.region.now.shape.within c.args.from.now.row) c.requires.sums
 
 pub down-down-requires : goal.down-down-requires
 down-down-requires g c =
-    let hi_is = bound_next c.args.region.now.hi.now c.args.from.now.row c.row-row.result c.args.region.now.end c.row-row.ensures c.requires.row c.args.region.now.hi_fits in
+    let hi_is = bound_next c.args.region.now.hi.now c.args.from.now.row c.row-row.result c.args.region.now.end
+    c.row-row.ensures c.requires.row c.args.region.now.hi_fits in
     le_le (bound_upto hi_is (c.args.region.now.shape.within c.args.from.now.row)) c.requires.width
 
 pub bounds-ways-at : goal.bounds-ways-at
 bounds-ways-at g c =
     let x = c.args.from.now.row in
-    let hi_is = bound_next c.args.region.now.hi.now x c.row-row.result c.args.region.now.end c.row-row.ensures c.requires.row c.args.region.now.hi_fits in
-    place_fits c.row-row.result c.args.region.now.end (get_or c.args.region.now.hi.now (c.row-row.result + 1) 0) c.args.region.now.width c.args.region.now.width (length c.args.ways.now) refl (eq_le c.row-row.ensures (lt_le c.requires.row))
+    let hi_is = bound_next c.args.region.now.hi.now x c.row-row.result c.args.region.now.end c.row-row.ensures
+    c.requires.row c.args.region.now.hi_fits in
+    place_fits c.row-row.result c.args.region.now.end (get_or c.args.region.now.hi.now (c.row-row.result + 1) 0)
+    c.args.region.now.width c.args.region.now.width (length c.args.ways.now) refl
+    (eq_le c.row-row.ensures (lt_le c.requires.row))
     (bound_upto hi_is (c.args.region.now.shape.within x)) c.requires.ways
 
 pub plus-cost-requires : goal.plus-cost-requires
@@ -37,12 +43,17 @@ plus-cost-requires g c =
     let x = c.args.from.now.row in
     let value = g.C.Sum.Amount.value in
     let cost = g.C.Cost.value in
-    let hi_is = bound_next c.args.region.now.hi.now x c.row-row.result c.args.region.now.end c.row-row.ensures c.requires.row c.args.region.now.hi_fits in
+    let hi_is = bound_next c.args.region.now.hi.now x c.row-row.result c.args.region.now.end c.row-row.ensures
+    c.requires.row c.args.region.now.hi_fits in
     let last : ℕ = get_or c.args.region.now.hi.now (c.row-row.result + 1) 0 in
     let at : last ≤ c.args.region.now.width = bound_upto hi_is (c.args.region.now.shape.within x) in
-    let u = read_is value c.args.sums.now last c.index-sums-last.result c.index-sums-last.is (le_lt at c.requires.sums) in
-    let below = c.requires.below last (le_eq (c.args.region.now.shape.joined x) (sym hi_is)) (eq_le (sym hi_is) (c.args.region.now.shape.rises x)) in
-    let fits = cost_fits g.C.Sum.Amount.MOST p (arcs p) (bound_at c.args.region.now.lo.now) (last_at c.args.region.now.hi.now) c.args.region.now.end c.args.region.now.width (x + 1) last (get_or (map value c.args.sums.now) last 0) (cost c.down-down.result)
+    let u = read_is value c.args.sums.now last c.index-sums-last.result c.index-sums-last.is (le_lt at c.requires.sums)
+    in
+    let below = c.requires.below last (le_eq (c.args.region.now.shape.joined x) (sym hi_is))
+    (eq_le (sym hi_is) (c.args.region.now.shape.rises x)) in
+    let fits = cost_fits g.C.Sum.Amount.MOST p (arcs p) (bound_at c.args.region.now.lo.now)
+    (last_at c.args.region.now.hi.now) c.args.region.now.end c.args.region.now.width (x + 1) last
+    (get_or (map value c.args.sums.now) last 0) (cost c.down-down.result)
     c.requires.end c.requires.width c.down-down.ensures.small below in
     sum_eq _ _ _ _ u fits
 
@@ -53,26 +64,44 @@ returns g c =
     let n = c.args.region.now.width in
     let value = g.C.Sum.Amount.value in
     let cost = g.C.Cost.value in
-    let hi_is = bound_next c.args.region.now.hi.now x c.row-row.result c.args.region.now.end c.row-row.ensures c.requires.row c.args.region.now.hi_fits in
+    let hi_is = bound_next c.args.region.now.hi.now x c.row-row.result c.args.region.now.end c.row-row.ensures
+    c.requires.row c.args.region.now.hi_fits in
     let last : ℕ = get_or c.args.region.now.hi.now (c.row-row.result + 1) 0 in
     let at : last ≤ n = bound_upto hi_is (c.args.region.now.shape.within x) in
-    let u = read_is value c.args.sums.now last c.index-sums-last.result c.index-sums-last.is (le_lt at c.requires.sums) in
+    let u = read_is value c.args.sums.now last c.index-sums-last.result c.index-sums-last.is (le_lt at c.requires.sums)
+    in
     let v = c.down-down.ensures.value in
-    let sum : value c.plus-cost.result ≡ get_or (map value c.args.sums.now) last 0 + cost c.down-down.result = c.plus-cost.ensures ∙ ap (λ (k : ℕ). k + cost c.down-down.result) u in
-    let fits = place_fits c.row-row.result c.args.region.now.end last n n (length c.args.ways.now) refl (eq_le c.row-row.ensures (lt_le c.requires.row)) at c.requires.ways in
-    let gone = gone_down (largest g.C.Sum.Amount.MOST p) (arcs p) (bound_at c.args.region.now.lo.now) (last_at c.args.region.now.hi.now) c.args.region.now.end n x last (c.row-row.result * (n + 1) + last) (cost c.down-down.result) (map value c.args.sums.now) c.args.ways.now
-    (sym hi_is) (lt_eq (le_lt at c.requires.sums) (length-map c.args.sums.now value)) (place_of x c.row-row.result last n n c.row-row.ensures refl) fits c.requires.row at
+    let sum : value c.plus-cost.result ≡ get_or (map value c.args.sums.now) last 0 + cost c.down-down.result =
+    c.plus-cost.ensures ∙ ap (λ (k : ℕ). k + cost c.down-down.result) u in
+    let fits = place_fits c.row-row.result c.args.region.now.end last n n (length c.args.ways.now) refl
+    (eq_le c.row-row.ensures (lt_le c.requires.row)) at c.requires.ways in
+    let gone = gone_down (largest g.C.Sum.Amount.MOST p) (arcs p) (bound_at c.args.region.now.lo.now)
+    (last_at c.args.region.now.hi.now) c.args.region.now.end n x last (c.row-row.result * (n + 1) + last)
+    (cost c.down-down.result) (map value c.args.sums.now) c.args.ways.now
+    (sym hi_is) (lt_eq (le_lt at c.requires.sums) (length-map c.args.sums.now value))
+    (place_of x c.row-row.result last n n c.row-row.ensures refl) fits c.requires.row at
     (c.args.region.now.shape.rises x) (c.args.region.now.shape.joined x) v c.down-down.ensures.small c.requires.below in
-    record { below = rw (map-set, sum) gone.below; costs = rw (map-set, sum) gone.costs; ways = gone.ways; rest = gone.rest; count = one_step _ _ c.down-down.ensures.count }
+    record {
+      below = rw (map-set, sum) gone.below;
+      costs = rw (map-set, sum) gone.costs;
+      ways = gone.ways;
+      rest =
+          gone.rest;
+      count = one_step _ _ c.down-down.ensures.count;
+    }
 
 pub offset_bounds-sums-last : goal.offset_bounds-sums-last
 offset_bounds-sums-last g c =
-    let hi_is = bound_next c.args.region.now.hi.now c.args.from.now.row c.row-row.result c.args.region.now.end c.row-row.ensures c.requires.row c.args.region.now.hi_fits in
-    let at : get_or c.args.region.now.hi.now (c.row-row.result + 1) 0 < length c.args.sums.now = bound_in hi_is (c.args.region.now.shape.within c.args.from.now.row) c.requires.sums in
+    let hi_is = bound_next c.args.region.now.hi.now c.args.from.now.row c.row-row.result c.args.region.now.end
+    c.row-row.ensures c.requires.row c.args.region.now.hi_fits in
+    let at : get_or c.args.region.now.hi.now (c.row-row.result + 1) 0 < length c.args.sums.now =
+    bound_in hi_is (c.args.region.now.shape.within c.args.from.now.row) c.requires.sums in
     search (rules, at)
 
 pub offset_bounds-sums-last-2 : goal.offset_bounds-sums-last-2
 offset_bounds-sums-last-2 g c =
-    let hi_is = bound_next c.args.region.now.hi.now c.args.from.now.row c.row-row.result c.args.region.now.end c.row-row.ensures c.requires.row c.args.region.now.hi_fits in
-    let at : get_or c.args.region.now.hi.now (c.row-row.result + 1) 0 < length c.args.sums.now = bound_in hi_is (c.args.region.now.shape.within c.args.from.now.row) c.requires.sums in
+    let hi_is = bound_next c.args.region.now.hi.now c.args.from.now.row c.row-row.result c.args.region.now.end
+    c.row-row.ensures c.requires.row c.args.region.now.hi_fits in
+    let at : get_or c.args.region.now.hi.now (c.row-row.result + 1) 0 < length c.args.sums.now =
+    bound_in hi_is (c.args.region.now.shape.within c.args.from.now.row) c.requires.sums in
     search (rules, at)

@@ -9,8 +9,11 @@ use Rattle.row_paths.proofs.SolutionLaws.{solves_from}
 use Rattle.row_paths.proofs.solving.solve_strip.Goals as goal
 
 -- the first and the last word, with all others between them
-is_gap : (p : Strip) (gap : Gap) (r : ℕ) (first last : List ℕ) → r ≡ rows p → 2 ≤ rows p → gap.first ≡ 0 → gap.last ≡ 2 * (r - 1) → gap.hi.now ≡ first → gap.lo.now ≡ last → length first ≡ 2 * rows p + 1 → length last ≡ 2 * rows p + 1
-    → IsPathOf (arcs p) (rows p) (cols p) 0 first → IsPathOf (arcs p) (rows p) (cols p) (2 * (rows p - 1)) last → IsGap p gap
+is_gap : (p : Strip) (gap : Gap) (r : ℕ) (first last : List ℕ) → r ≡ rows p → 2 ≤ rows p → gap.first ≡ 0
+    → gap.last ≡ 2 * (r - 1) → gap.hi.now ≡ first → gap.lo.now ≡ last → length first ≡ 2 * rows p + 1
+    → length last ≡ 2 * rows p + 1
+    → IsPathOf (arcs p) (rows p) (cols p) 0 first → IsPathOf (arcs p) (rows p) (cols p) (2 * (rows p - 1)) last
+    → IsGap p gap
 is_gap p gap r first last e some f f' hi lo size size' from to =
     let m : 2 * (rows p - 1) ≡ gap.last = omega (arith, e, f') in
     record {
@@ -27,43 +30,68 @@ find_last-requires-clause-length g c = ap length c.deref.ensures.value ∙ c.in_
 
 pub find_last-requires-clause-path : goal.find_last-requires-clause-path
 find_last-requires-clause-path g c =
-    subst (λ (l : List ℕ). IsPathOf (arcs c.args.strip.now) (rows c.args.strip.now) (cols c.args.strip.now) 0 l) (sym c.deref.ensures.value) c.in_ok-first.ensures.path
+    subst (λ (l : List ℕ). IsPathOf (arcs c.args.strip.now) (rows c.args.strip.now) (cols c.args.strip.now) 0 l)
+    (sym c.deref.ensures.value) c.in_ok-first.ensures.path
 
 pub turn_costs-requires-clause-gap : goal.turn_costs-requires-clause-gap
 turn_costs-requires-clause-gap g c =
-    is_gap c.args.strip.now _ c.rows-rows.result c.in_ok-first.first.path.items c.in_ok-last.last.path.items c.rows-rows.ensures.value (omega (arith, c.rows-rows.ensures.ring.enough)) refl refl c.deref-2.ensures.value c.deref-3.ensures.value c.in_ok-first.ensures.length c.in_ok-last.ensures.length c.in_ok-first.ensures.path c.in_ok-last.ensures.path
+    is_gap c.args.strip.now _ c.rows-rows.result c.in_ok-first.first.path.items c.in_ok-last.last.path.items
+    c.rows-rows.ensures.value (omega (arith, c.rows-rows.ensures.ring.enough)) refl refl c.deref-2.ensures.value
+    c.deref-3.ensures.value c.in_ok-first.ensures.length c.in_ok-last.ensures.length c.in_ok-first.ensures.path
+    c.in_ok-last.ensures.path
 
 pub turn_word-requires-clause-gap : goal.turn_word-requires-clause-gap
 turn_word-requires-clause-gap g c =
-    is_gap c.args.strip.now _ c.rows-rows.result c.in_ok-first.first.path.items c.in_ok-last.last.path.items c.rows-rows.ensures.value (omega (arith, c.rows-rows.ensures.ring.enough)) refl refl c.deref-2.ensures.value c.deref-3.ensures.value c.in_ok-first.ensures.length c.in_ok-last.ensures.length c.in_ok-first.ensures.path c.in_ok-last.ensures.path
+    is_gap c.args.strip.now _ c.rows-rows.result c.in_ok-first.first.path.items c.in_ok-last.last.path.items
+    c.rows-rows.ensures.value (omega (arith, c.rows-rows.ensures.ring.enough)) refl refl c.deref-2.ensures.value
+    c.deref-3.ensures.value c.in_ok-first.ensures.length c.in_ok-last.ensures.length c.in_ok-first.ensures.path
+    c.in_ok-last.ensures.path
 
 pub returns-in_err-costs-clause-count : goal.returns-in_err-costs-clause-count
 returns-in_err-costs-clause-count g c =
     let m = rows c.args.strip.now in
     let n = cols c.args.strip.now in
-    let all = readings-all (2 * m - 3) m n (2 * m * (n + 1)) (omega (arith, c.rows-rows.ensures.ring.enough)) (omega arith) in
+    let all = readings-all (2 * m - 3) m n (2 * m * (n + 1)) (omega (arith, c.rows-rows.ensures.ring.enough))
+    (omega arith) in
     omega (arith, all, c.find_first.ensures.count, c.find_last.ensures.count, c.turn_costs.ensures.count)
 
 pub returns-in_err-rounds-clause-count : goal.returns-in_err-rounds-clause-count
 returns-in_err-rounds-clause-count g c =
     let m = rows c.args.strip.now in
     let n = cols c.args.strip.now in
-    let all = readings-all (2 * m - 3) m n (2 * m * (n + 1)) (omega (arith, c.rows-rows.ensures.ring.enough)) (omega arith) in
+    let all = readings-all (2 * m - 3) m n (2 * m * (n + 1)) (omega (arith, c.rows-rows.ensures.ring.enough))
+    (omega arith) in
     omega (arith, all, c.find_first.ensures.count, c.find_last.ensures.count, c.turn_costs.ensures.count)
 
 pub returns-in_err-word-clause-count : goal.returns-in_err-word-clause-count
 returns-in_err-word-clause-count g c =
     let m = rows c.args.strip.now in
     let n = cols c.args.strip.now in
-    let all = readings-all (2 * m - 3) m n (2 * m * (n + 1)) (omega (arith, c.rows-rows.ensures.ring.enough)) (omega arith) in
-    omega (arith, all, c.find_first.ensures.count, c.find_last.ensures.count, c.turn_costs.ensures.count, c.turn_word.ensures.count)
+    let all = readings-all (2 * m - 3) m n (2 * m * (n + 1)) (omega (arith, c.rows-rows.ensures.ring.enough))
+    (omega arith) in
+    omega (
+      arith,
+      all,
+      c.find_first.ensures.count,
+      c.find_last.ensures.count,
+      c.turn_costs.ensures.count,
+      c.turn_word.ensures.count,
+    )
 
 pub returns-clause-count : goal.returns-clause-count
 returns-clause-count g c =
     let m = rows c.args.strip.now in
     let n = cols c.args.strip.now in
-    let all = readings-all (2 * m - 3) m n (2 * m * (n + 1)) (omega (arith, c.rows-rows.ensures.ring.enough)) (omega arith) in
-    omega (arith, all, c.find_first.ensures.count, c.find_last.ensures.count, c.turn_costs.ensures.count, c.turn_word.ensures.count)
+    let all = readings-all (2 * m - 3) m n (2 * m * (n + 1)) (omega (arith, c.rows-rows.ensures.ring.enough))
+    (omega arith) in
+    omega (
+      arith,
+      all,
+      c.find_first.ensures.count,
+      c.find_last.ensures.count,
+      c.turn_costs.ensures.count,
+      c.turn_word.ensures.count,
+    )
 
 -- the first least cost is read
 read : (xs : List ℕ) (i x : ℕ) → x ≡ get_or xs i x → i < length xs → x ≡ get_or xs i 0
@@ -73,13 +101,16 @@ pub of-solved-requires : goal.of-solved-requires
 of-solved-requires g c =
     let p = c.args.strip.now in
     let m : c.rows-rows.result ≡ rows p = search rules in
-    let least = subst (λ (l : List ℕ). IsFirstLeast l c.first_least-row.result) c.deref-5.ensures.value c.first_least-row.ensures in
+    let least = subst (λ (l : List ℕ). IsFirstLeast l c.first_least-row.result) c.deref-5.ensures.value
+    c.first_least-row.ensures in
     let x = read c.in_ok-rounds.rounds.items c.first_least-row.result c.index.result.now c.index.ensures least.within in
     omega (
       arith,
       x,
-      round_fits p c.in_ok-costs.costs.items c.deref-4.result.now c.in_ok-rounds.rounds.items c.first_least-row.result c.rows-rows.ensures.strip c.deref-4.ensures.value c.in_ok-costs.ensures.costs
-          (λ k lt. c.in_ok-rounds.ensures.are k (omega (arith, m, lt))) (omega (arith, least.within, c.in_ok-rounds.ensures.count, m)),
+      round_fits p c.in_ok-costs.costs.items c.deref-4.result.now c.in_ok-rounds.rounds.items c.first_least-row.result
+          c.rows-rows.ensures.strip c.deref-4.ensures.value c.in_ok-costs.ensures.costs
+          (λ k lt. c.in_ok-rounds.ensures.are k (omega (arith, m, lt)))
+          (omega (arith, least.within, c.in_ok-rounds.ensures.count, m)),
     )
 
 pub returns-clause-solves : goal.returns-clause-solves
@@ -89,6 +120,10 @@ returns-clause-solves g c =
     let m : c.rows-rows.result ≡ rows p = search rules in
     let least = subst (λ (l : List ℕ). IsFirstLeast l row) c.deref-5.ensures.value c.first_least-row.ensures in
     let x = read c.in_ok-rounds.rounds.items row c.index.result.now c.index.ensures least.within in
-    let k = solved p c.in_ok-costs.costs.items c.deref-4.result.now c.in_ok-rounds.rounds.items c.deref-5.result.now row c.in_ok-word.word.items c.cols-cols.ensures.ring c.deref-4.ensures.value c.deref-5.ensures.value c.in_ok-costs.ensures.costs
-    (omega (arith, c.in_ok-rounds.ensures.count, m)) (λ k lt. c.in_ok-rounds.ensures.are k (omega (arith, m, lt))) c.first_least-row.ensures c.in_ok-word.ensures.word in
-    solves_from p c.of-solved.result row c.in_ok-word.word.items c.index.result.now c.of-solved.ensures.row c.of-solved.ensures.word c.of-solved.ensures.cost k.0 (omega (arith, x, k.1))
+    let k = solved p c.in_ok-costs.costs.items c.deref-4.result.now c.in_ok-rounds.rounds.items c.deref-5.result.now row
+    c.in_ok-word.word.items c.cols-cols.ensures.ring c.deref-4.ensures.value c.deref-5.ensures.value
+    c.in_ok-costs.ensures.costs
+    (omega (arith, c.in_ok-rounds.ensures.count, m)) (λ k lt. c.in_ok-rounds.ensures.are k (omega (arith, m, lt)))
+    c.first_least-row.ensures c.in_ok-word.ensures.word in
+    solves_from p c.of-solved.result row c.in_ok-word.word.items c.index.result.now c.of-solved.ensures.row
+    c.of-solved.ensures.word c.of-solved.ensures.cost k.0 (omega (arith, x, k.1))

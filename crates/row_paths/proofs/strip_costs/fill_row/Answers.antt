@@ -10,7 +10,9 @@ loop-col-preserved g c =
     let row = c.args.from.now.row in
     let within : c.loop-col.col < length c.loop-col.costs = omega arith in
     record {
-      are = set_more value (λ k n. n ≡ arcs strip row k c.args.step) c.loop-col.costs c.loop-col.col c.of.result within c.loop-col.invariant.are (c.of.ensures ∙ c.step_cost-cost.ensures.value);
-      small = set_more value (λ k n. n ≤ c.args.limit) c.loop-col.costs c.loop-col.col c.of.result within c.loop-col.invariant.small (omega (arith, c.of.ensures, c.if-cost-limit.false));
+      are = set_more value (λ k n. n ≡ arcs strip row k c.args.step) c.loop-col.costs c.loop-col.col c.of.result within
+          c.loop-col.invariant.are (c.of.ensures ∙ c.step_cost-cost.ensures.value);
+      small = set_more value (λ k n. n ≤ c.args.limit) c.loop-col.costs c.loop-col.col c.of.result within
+          c.loop-col.invariant.small (omega (arith, c.of.ensures, c.if-cost-limit.false));
       steps = omega (arith, c.step_cost-cost.ensures.count, c.loop-col.invariant.steps);
     }

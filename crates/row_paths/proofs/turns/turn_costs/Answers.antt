@@ -25,4 +25,5 @@ returns-clause-costs g c =
     let p = c.args.strip.now in
     let q = c.args.gap.now.last in
     subst (λ (k : ℕ). AreCosts (arcs p) (rows p) (cols p) k c.push-2.new.self.items) (next q (rows p) c.requires.to)
-    (costs_more (arcs p) (rows p) (cols p) q c.args.last c.between.new.costs.items c.push-2.new.self.items c.in_ok-push-2.ensures.items c.requires.last c.in_ok-between.ensures.costs)
+    (costs_more (arcs p) (rows p) (cols p) q c.args.last c.between.new.costs.items c.push-2.new.self.items
+    c.in_ok-push-2.ensures.items c.requires.last c.in_ok-between.ensures.costs)

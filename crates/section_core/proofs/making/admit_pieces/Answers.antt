@@ -11,7 +11,8 @@ pub returns-then-not-is_weighted-clause-walks : goal.returns-then-not-is_weighte
 returns-then-not-is_weighted-clause-walks c = λ _.
     let k = cost_parts c.args.cost in
     let bad : is_weighted k ≡ false = sym c.is_weighted.ensures ∙ c.if-not-is_weighted.true in
-    cost_err k nothing (flat_map section_pieces c.args.sections.now ++ map link_piece c.args.links.now) c.args.tally.now bad
+    cost_err k nothing (flat_map section_pieces c.args.sections.now ++ map link_piece c.args.links.now) c.args.tally.now
+    bad
 
 pub returns-in-Err-clause-walks : goal.returns-in-Err-clause-walks
 returns-in-Err-clause-walks c = λ begun.
@@ -22,7 +23,8 @@ returns-in-Err-clause-walks c = λ begun.
     let f = after nothing (cost_is k) in
     let tally = c.admit_sections.new.tally in
     cost_ok k nothing (ss ++ ls) (Err c.in-Err.fault) tally good
-    (walks_on f ss ls c.in-Err.fault tally tally (c.in-Err.ensures.walks f (tallies_cost c.args.tally.now nothing k begun)))
+    (walks_on f ss ls c.in-Err.fault tally tally
+    (c.in-Err.ensures.walks f (tallies_cost c.args.tally.now nothing k begun)))
 
 pub returns-in-Ok-clause-walks : goal.returns-in-Ok-clause-walks
 returns-in-Ok-clause-walks c = λ begun.
@@ -31,6 +33,7 @@ returns-in-Ok-clause-walks c = λ begun.
     let ls = map link_piece c.args.links.now in
     let good : is_weighted k ≡ true = sym c.is_weighted.ensures ∙ c.if-not-is_weighted.false in
     let f = after nothing (cost_is k) in
-    let d = walks_ok (keeps_name f ss) (walk f ss) c.in-Ok.field-0 c.admit_sections.new.tally (c.in-Ok.ensures.walks f (tallies_cost c.args.tally.now nothing k begun)) in
+    let d = walks_ok (keeps_name f ss) (walk f ss) c.in-Ok.field-0 c.admit_sections.new.tally
+    (c.in-Ok.ensures.walks f (tallies_cost c.args.tally.now nothing k begun)) in
     cost_ok k nothing (ss ++ ls) c.admit_links.result c.admit_links.new.tally good
     (walks_after f d.0 ss ls c.admit_links.result c.admit_links.new.tally d.1 (c.admit_links.ensures.walks d.0 d.2))

@@ -13,7 +13,8 @@ loop-draft-init c =
     let gives = c.into_iter-draft-iterator.ensures.into_iter_gives in
     let rest = c.into_iter-draft-iterator.result.rest in
     record {
-      objects = ap (λ (xs : List Object). map object_parts xs ++ map draft_parts rest.items) c.new-items.ensures.items ∙ ap (map draft_parts) gives.0;
+      objects = ap (λ (xs : List Object). map object_parts xs ++ map draft_parts rest.items) c.new-items.ensures.items
+          ∙ ap (map draft_parts) gives.0;
       under = subst (AreUnder (cost_parts c.args.head.cost) c.args.head.rule) (sym c.new-items.ensures.items) tt;
       ready = subst (AreReady c.args.head) (sym gives.0) c.requires;
       left = omega (arith, gives.1, ap length gives.0);
@@ -25,8 +26,12 @@ loop-draft-preserved c =
     let was = c.loop-draft.invariant in
     let ready = subst (AreReady c.args.head) step.0 was.ready in
     record {
-      objects = objects_more c.loop-draft.items.items c.push.new.self.items c.object_of.result c.in-Some.draft c.loop-draft.draft-iterator.rest.items c.next.new.self.rest.items (map draft_parts c.args.drafts.items) was.objects step.0 c.in_ok-push.ensures.items c.object_of.ensures.0;
-      under = subst (AreUnder (cost_parts c.args.head.cost) c.args.head.rule) (sym c.in_ok-push.ensures.items) (under_more (cost_parts c.args.head.cost) c.args.head.rule c.loop-draft.items.items c.object_of.result was.under c.object_of.ensures.1);
+      objects = objects_more c.loop-draft.items.items c.push.new.self.items c.object_of.result c.in-Some.draft
+          c.loop-draft.draft-iterator.rest.items c.next.new.self.rest.items (map draft_parts c.args.drafts.items)
+          was.objects step.0 c.in_ok-push.ensures.items c.object_of.ensures.0;
+      under = subst (AreUnder (cost_parts c.args.head.cost) c.args.head.rule) (sym c.in_ok-push.ensures.items)
+          (under_more (cost_parts c.args.head.cost) c.args.head.rule c.loop-draft.items.items c.object_of.result
+          was.under c.object_of.ensures.1);
       ready = ready.1;
       left = omega (arith, step.1, was.left, ap length step.0);
     }
@@ -34,5 +39,10 @@ loop-draft-preserved c =
 pub returns : goal.returns
 returns c =
     let was = c.loop-draft.invariant in
-    let none = no_rest c.loop-draft.draft-iterator.rest.items c.loop-draft.draft-iterator.rest.len was.left c.in-None.ensures.steps.0 in
-    (sym (append-nil (map object_parts c.loop-draft.items.items)) ∙ ap (λ (ds : List Draft). map object_parts c.loop-draft.items.items ++ map draft_parts ds) (sym none) ∙ was.objects, was.under)
+    let none = no_rest c.loop-draft.draft-iterator.rest.items c.loop-draft.draft-iterator.rest.len was.left
+    c.in-None.ensures.steps.0 in (
+      sym (append-nil (map object_parts c.loop-draft.items.items))
+          ∙ ap (λ (ds : List Draft). map object_parts c.loop-draft.items.items ++ map draft_parts ds) (sym none)
+          ∙ was.objects,
+      was.under,
+    )

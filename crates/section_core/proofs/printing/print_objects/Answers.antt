@@ -19,16 +19,25 @@ returns-clause-canonical c =
     let F = c.args.objects.now in
     let v = c.kept_version-version.result in
     let head : c.put_head.new.out.items ≡ head_text F.version F.cost F.rule =
-    c.in_ok-put_head.ensures ∙ ap (λ (x : List ℕ). x ++ head_text v (cost_parts c.cost.result) c.rule.result) c.new-out.ensures.items
-    ∙ ap (λ (x : CostParts). head_text v x c.rule.result) c.cost.ensures.parts ∙ ap (λ (x : PairRule). head_text v F.cost x) c.rule.ensures ∙ ap (λ (x : Version). head_text x F.cost F.rule) c.kept_version-version.ensures in
-    let body : c.put_objects.new.out.items ≡ c.put_head.new.out.items ++ flat_map (object_text F.version F.rule) F.objects =
+    c.in_ok-put_head.ensures ∙ ap (λ (x : List ℕ). x ++ head_text v (cost_parts c.cost.result) c.rule.result)
+    c.new-out.ensures.items
+    ∙ ap (λ (x : CostParts). head_text v x c.rule.result) c.cost.ensures.parts
+    ∙ ap (λ (x : PairRule). head_text v F.cost x) c.rule.ensures
+    ∙ ap (λ (x : Version). head_text x F.cost F.rule) c.kept_version-version.ensures in
+    let body : c.put_objects.new.out.items ≡ c.put_head.new.out.items
+    ++ flat_map (object_text F.version F.rule) F.objects =
     c.in_ok-put_objects.ensures F.cost F.rule c.items.ensures.under
-    ∙ ap (λ (x : Version). c.put_head.new.out.items ++ flat_map (object_text x F.rule) (map object_parts c.items.result.now)) c.kept_version-version.ensures
-    ∙ ap (λ (os : List ObjectParts). c.put_head.new.out.items ++ flat_map (object_text F.version F.rule) os) c.items.ensures.parts in
-    printed_file F c.put_head.new.out.items c.put_objects.new.out.items c.put.new.out.items head body c.in_ok-put.ensures
+    ∙ ap (λ (x : Version). c.put_head.new.out.items
+    ++ flat_map (object_text x F.rule) (map object_parts c.items.result.now)) c.kept_version-version.ensures
+    ∙ ap (λ (os : List ObjectParts). c.put_head.new.out.items ++ flat_map (object_text F.version F.rule) os)
+    c.items.ensures.parts in
+    printed_file F c.put_head.new.out.items c.put_objects.new.out.items c.put.new.out.items head body
+    c.in_ok-put.ensures
 
 pub returns-clause-law : goal.returns-clause-law
-returns-clause-law c = subst (λ (x : List ℕ). IsTextOfFile x c.args.objects.now) (sym (returns-clause-canonical c)) (file_text_reads c.args.objects.now c.items.ensures.accepted)
+returns-clause-law c = subst (λ (x : List ℕ). IsTextOfFile x c.args.objects.now) (sym (returns-clause-canonical c))
+    (file_text_reads c.args.objects.now c.items.ensures.accepted)
 
 pub returns-clause-short : goal.returns-clause-short
-returns-clause-short c = subst (λ (x : List ℕ). length x ≤ MAX_INPUT_BYTES) (sym (returns-clause-canonical c)) (file_short c.args.objects.now c.items.ensures.accepted)
+returns-clause-short c = subst (λ (x : List ℕ). length x ≤ MAX_INPUT_BYTES) (sym (returns-clause-canonical c))
+    (file_short c.args.objects.now c.items.ensures.accepted)

@@ -12,6 +12,11 @@ returns c =
     let S = c.args.object.now.sections in
     let name = name_text c.args.version c.args.object.now.name in
     let body = flat_map line_text (body_lines S.rule S.sections S.links) in
-    on_ok c.put_body.result (c.put_body.new.out.items ≡ c.put_object_name.new.out.items ++ body) (c.put_body.new.out.items ≡ c.args.out.now.items ++ object_text c.args.version S.rule (object_parts c.args.object.now))
-    (λ e. e ∙ ap (λ (x : List ℕ). x ++ body) c.in_ok-put_object_name.ensures ∙ append_assoc c.args.out.now.items name body ∙ ap (λ (x : List ℕ). c.args.out.now.items ++ x) (sym (object_is c.args.version S.rule (object_parts c.args.object.now))))
+    on_ok c.put_body.result (c.put_body.new.out.items ≡ c.put_object_name.new.out.items ++ body)
+    (c.put_body.new.out.items ≡ c.args.out.now.items
+    ++ object_text c.args.version S.rule (object_parts c.args.object.now))
+    (λ e. e ∙ ap (λ (x : List ℕ). x ++ body) c.in_ok-put_object_name.ensures
+    ∙ append_assoc c.args.out.now.items name body
+    ∙ ap (λ (x : List ℕ). c.args.out.now.items ++ x)
+    (sym (object_is c.args.version S.rule (object_parts c.args.object.now))))
     c.put_body.ensures.text

@@ -7,4 +7,6 @@ use Rattle.section_core.specs.Objects.{object_parts, AreUnder}
 use Rattle.section_core.proofs.printing.put_objects.Given as goal
 
 abbrev pub invariant-loop-object : goal.invariant-loop-object
-invariant-loop-object l = (cost : CostParts) (rule : PairRule) → AreUnder cost rule l.objects → l.out.items ++ flat_map (object_text l.version rule) (map object_parts (drop l.object-index l.objects)) ≡ l.fn.out.items ++ flat_map (object_text l.version rule) (map object_parts l.objects)
+invariant-loop-object l = (cost : CostParts) (rule : PairRule) → AreUnder cost rule l.objects
+    → l.out.items ++ flat_map (object_text l.version rule) (map object_parts (drop l.object-index l.objects))
+    ≡ l.fn.out.items ++ flat_map (object_text l.version rule) (map object_parts l.objects)

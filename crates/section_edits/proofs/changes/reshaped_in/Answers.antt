@@ -13,6 +13,9 @@ loop-contour-preserved c =
     let new = c.push.new.self.items in
     let y = c.in_ok-reshaped.field-0 in
     record {
-      parts = changed_more contour_parts contour_parts (reshaped c.args.name.now (map spot_at c.args.spots.now)) old new y c.deref-contour-items.result.now c.loop-contour.contour-index c.contour-item.result c.loop-contour-test.true c.contour-item.is c.in_ok-push.ensures.items c.loop-contour.invariant.parts c.in_ok-reshaped.ensures.parts;
-      level = all_pushed (IsAtHeight c.args.section.now.z) old new y c.in_ok-push.ensures.items c.loop-contour.invariant.level c.in_ok-reshaped.ensures.level;
+      parts = changed_more contour_parts contour_parts (reshaped c.args.name.now (map spot_at c.args.spots.now)) old new
+          y c.deref-contour-items.result.now c.loop-contour.contour-index c.contour-item.result c.loop-contour-test.true
+          c.contour-item.is c.in_ok-push.ensures.items c.loop-contour.invariant.parts c.in_ok-reshaped.ensures.parts;
+      level = all_pushed (IsAtHeight c.args.section.now.z) old new y c.in_ok-push.ensures.items
+          c.loop-contour.invariant.level c.in_ok-reshaped.ensures.level;
     }

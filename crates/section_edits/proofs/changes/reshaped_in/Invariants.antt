@@ -7,6 +7,7 @@ use Rattle.section_edits.proofs.changes.reshaped_in.Given as goal
 
 abbrev pub invariant-loop-contour : goal.invariant-loop-contour
 invariant-loop-contour l = record {
-  parts : map contour_parts l.contours.items ≡ map (reshaped l.name (map spot_at l.spots)) (map contour_parts (take l.contour-index l.contour-items));
+  parts : map contour_parts l.contours.items
+      ≡ map (reshaped l.name (map spot_at l.spots)) (map contour_parts (take l.contour-index l.contour-items));
   level : All (IsAtHeight l.section.z) l.contours.items;
 }

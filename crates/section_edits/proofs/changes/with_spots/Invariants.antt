@@ -7,6 +7,7 @@ use Rattle.section_edits.proofs.changes.with_spots.Given as goal
 
 abbrev pub invariant-loop-section : goal.invariant-loop-section
 invariant-loop-section l = record {
-  parts : map section_parts l.changed.items ≡ map (reshaped_in l.name (map spot_at l.spots)) (map section_parts (take l.section-index l.sections));
+  parts : map section_parts l.changed.items
+      ≡ map (reshaped_in l.name (map spot_at l.spots)) (map section_parts (take l.section-index l.sections));
   level : All IsLevelSection l.changed.items;
 }

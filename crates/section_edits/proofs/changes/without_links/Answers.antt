@@ -20,11 +20,14 @@ loop-link-preserved c =
     elim c.if-not-names_it.branch [
       | then-not-names_it+in_ok-push w ↦
           let y = w.copy.result in
-          let more : new ≡ old ++ y ∷ [] = ap (λ (v : Vec Link Global). v.items) w.kept-is ∙ w.in_ok-push.ensures.items in
+          let more : new ≡ old ++ y ∷ [] = ap (λ (v : Vec Link Global). v.items) w.kept-is
+          ∙ w.in_ok-push.ensures.items in
           let passes : p (link_parts x) ≡ true = ap not (sym c.names_it.ensures ∙ w.if-not-names_it.true) in
-          kept link_parts link_parts p old new y xs i x c.loop-link-test.true c.link-item.is more c.loop-link.invariant passes w.copy.ensures
+          kept link_parts link_parts p old new y xs i x c.loop-link-test.true c.link-item.is more c.loop-link.invariant
+          passes w.copy.ensures
       | else-not-names_it w ↦
           let same : new ≡ old = ap (λ (v : Vec Link Global). v.items) w.kept-is in
           let fails : p (link_parts x) ≡ false = ap not (sym c.names_it.ensures ∙ w.if-not-names_it.false) in
-          ap (map link_parts) same ∙ passed link_parts link_parts p old xs i x c.loop-link-test.true c.link-item.is c.loop-link.invariant fails
+          ap (map link_parts) same ∙ passed link_parts link_parts p old xs i x c.loop-link-test.true c.link-item.is
+          c.loop-link.invariant fails
     ]

@@ -6,4 +6,5 @@ use Rattle.section_edits.specs.Contours.{has_name}
 use Rattle.section_edits.proofs.contours.contour_in.Given as goal
 
 abbrev pub invariant-loop-contour : goal.invariant-loop-contour
-invariant-loop-contour l = find (has_name l.name) (flat_map (λ (c : Contour). contour_parts c ∷ []) (take l.contour-index l.contours)) ≡ None
+invariant-loop-contour l = find (has_name l.name)
+    (flat_map (λ (c : Contour). contour_parts c ∷ []) (take l.contour-index l.contours)) ≡ None

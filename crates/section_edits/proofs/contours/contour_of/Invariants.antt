@@ -6,4 +6,5 @@ use Rattle.section_edits.specs.Contours.{has_name}
 use Rattle.section_edits.proofs.contours.contour_of.Given as goal
 
 abbrev pub invariant-loop-section : goal.invariant-loop-section
-invariant-loop-section l = find (has_name l.name) (flat_map (λ (s : Section). map contour_parts s.contours.items) (take l.section-index l.sections)) ≡ None
+invariant-loop-section l = find (has_name l.name)
+    (flat_map (λ (s : Section). map contour_parts s.contours.items) (take l.section-index l.sections)) ≡ None

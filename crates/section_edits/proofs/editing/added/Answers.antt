@@ -26,9 +26,13 @@ returns-then-not-has_section-clause-answers c =
     let points = c.args.points.now in
     let e = AddContour z name points in
     let far : list_any is_far points ≡ false = sym c.any_far.ensures ∙ c.if-any_far.false in
-    let at_z : c.has_section.result ≡ list_any (λ (s : Section). int_eq z s.z) c.sections.result.now = rw (to_z-of_z w32 z c.ranges.z) at c.has_section.ensures in
-    let section : has_section_at S.sections z ≡ false = section_test c.sections.result.now S.sections z c.has_section.result c.sections.ensures.parts at_z ∙ c.if-not-has_section.true in
-    rw (to_z-of_z w32 z c.ranges.z) (told (IsRefusal S e) (NoSection z) (λ s. s ≡ changed S e) (by_own S e (NoSection z) (cond-false _ _ _ far ∙ cond-true _ _ _ (ap not section))))
+    let at_z : c.has_section.result ≡ list_any (λ (s : Section). int_eq z s.z) c.sections.result.now =
+    rw (to_z-of_z w32 z c.ranges.z) at c.has_section.ensures in
+    let section : has_section_at S.sections z ≡ false =
+    section_test c.sections.result.now S.sections z c.has_section.result c.sections.ensures.parts at_z
+    ∙ c.if-not-has_section.true in
+    rw (to_z-of_z w32 z c.ranges.z) (told (IsRefusal S e) (NoSection z) (λ s. s ≡ changed S e)
+    (by_own S e (NoSection z) (cond-false _ _ _ far ∙ cond-true _ _ _ (ap not section))))
 
 pub returns-then-points-lt3-clause-answers : goal.returns-then-points-lt3-clause-answers
 returns-then-points-lt3-clause-answers c =
@@ -38,12 +42,16 @@ returns-then-points-lt3-clause-answers c =
     let points = c.args.points.now in
     let e = AddContour z name points in
     let far : list_any is_far points ≡ false = sym c.any_far.ensures ∙ c.if-any_far.false in
-    let at_z : c.has_section.result ≡ list_any (λ (s : Section). int_eq z s.z) c.sections.result.now = rw (to_z-of_z w32 z c.ranges.z) at c.has_section.ensures in
-    let section : has_section_at S.sections z ≡ true = section_test c.sections.result.now S.sections z c.has_section.result c.sections.ensures.parts at_z ∙ c.if-not-has_section.false in
+    let at_z : c.has_section.result ≡ list_any (λ (s : Section). int_eq z s.z) c.sections.result.now =
+    rw (to_z-of_z w32 z c.ranges.z) at c.has_section.ensures in
+    let section : has_section_at S.sections z ≡ true =
+    section_test c.sections.result.now S.sections z c.has_section.result c.sections.ensures.parts at_z
+    ∙ c.if-not-has_section.false in
     let few : length points < 3 = omega (arith, c.if-points-lt3.true) in
     told (IsRefusal S e) (TooFew c.copy-name.result) (λ s. s ≡ changed S e)
     (by_own S e (TooFew c.copy-name.result)
-    (cond-false _ _ _ far ∙ cond-false _ _ _ (ap not section) ∙ cond-true _ _ _ (lt-ltb _ _ few) ∙ ap (λ (n : List ℕ). Some (TooFew n)) (sym c.copy-name.ensures)))
+    (cond-false _ _ _ far ∙ cond-false _ _ _ (ap not section) ∙ cond-true _ _ _ (lt-ltb _ _ few)
+    ∙ ap (λ (n : List ℕ). Some (TooFew n)) (sym c.copy-name.ensures)))
 
 pub returns-in-Some-clause-answers : goal.returns-in-Some-clause-answers
 returns-in-Some-clause-answers c =
@@ -53,13 +61,19 @@ returns-in-Some-clause-answers c =
     let points = c.args.points.now in
     let e = AddContour z name points in
     let far : list_any is_far points ≡ false = sym c.any_far.ensures ∙ c.if-any_far.false in
-    let at_z : c.has_section.result ≡ list_any (λ (s : Section). int_eq z s.z) c.sections.result.now = rw (to_z-of_z w32 z c.ranges.z) at c.has_section.ensures in
-    let section : has_section_at S.sections z ≡ true = section_test c.sections.result.now S.sections z c.has_section.result c.sections.ensures.parts at_z ∙ c.if-not-has_section.false in
+    let at_z : c.has_section.result ≡ list_any (λ (s : Section). int_eq z s.z) c.sections.result.now =
+    rw (to_z-of_z w32 z c.ranges.z) at c.has_section.ensures in
+    let section : has_section_at S.sections z ≡ true =
+    section_test c.sections.result.now S.sections z c.has_section.result c.sections.ensures.parts at_z
+    ∙ c.if-not-has_section.false in
     let enough : 3 ≤ length points = omega (arith, c.if-points-lt3.false) in
-    let named : contour_of S.sections name ≡ Some (contour_parts c.in-Some.field-0.now) = ap (λ (ss : List SectionParts). contour_of ss name) (sym c.sections-2.ensures.parts) ∙ sym c.in-Some.ensures in
+    let named : contour_of S.sections name ≡ Some (contour_parts c.in-Some.field-0.now) =
+    ap (λ (ss : List SectionParts). contour_of ss name) (sym c.sections-2.ensures.parts) ∙ sym c.in-Some.ensures in
     told (IsRefusal S e) (NameTwice c.copy-name-in-Some.result) (λ s. s ≡ changed S e)
     (by_own S e (NameTwice c.copy-name-in-Some.result)
-    (cond-false _ _ _ far ∙ cond-false _ _ _ (ap not section) ∙ cond-false _ _ _ (le-ltb _ _ enough) ∙ cond-true _ _ _ (there S.sections name (contour_parts c.in-Some.field-0.now) named) ∙ ap (λ (n : List ℕ). Some (NameTwice n)) (sym c.copy-name-in-Some.ensures)))
+    (cond-false _ _ _ far ∙ cond-false _ _ _ (ap not section) ∙ cond-false _ _ _ (le-ltb _ _ enough)
+    ∙ cond-true _ _ _ (there S.sections name (contour_parts c.in-Some.field-0.now) named)
+    ∙ ap (λ (n : List ℕ). Some (NameTwice n)) (sym c.copy-name-in-Some.ensures)))
 
 pub grown-requires-clause-in_range : goal.grown-requires-clause-in_range
 grown-requires-clause-in_range c =
@@ -79,13 +93,19 @@ returns-clause-answers c =
     let points = c.args.points.now in
     let e = AddContour z name points in
     let far : list_any is_far points ≡ false = sym c.any_far.ensures ∙ c.if-any_far.false in
-    let at_z : c.has_section.result ≡ list_any (λ (s : Section). int_eq z s.z) c.sections.result.now = rw (to_z-of_z w32 z c.ranges.z) at c.has_section.ensures in
-    let section : has_section_at S.sections z ≡ true = section_test c.sections.result.now S.sections z c.has_section.result c.sections.ensures.parts at_z ∙ c.if-not-has_section.false in
+    let at_z : c.has_section.result ≡ list_any (λ (s : Section). int_eq z s.z) c.sections.result.now =
+    rw (to_z-of_z w32 z c.ranges.z) at c.has_section.ensures in
+    let section : has_section_at S.sections z ≡ true =
+    section_test c.sections.result.now S.sections z c.has_section.result c.sections.ensures.parts at_z
+    ∙ c.if-not-has_section.false in
     let enough : 3 ≤ length points = omega (arith, c.if-points-lt3.false) in
-    let free : contour_of S.sections name ≡ None = ap (λ (ss : List SectionParts). contour_of ss name) (sym c.sections-2.ensures.parts) ∙ sym c.in_default.ensures in
+    let free : contour_of S.sections name ≡ None =
+    ap (λ (ss : List SectionParts). contour_of ss name) (sym c.sections-2.ensures.parts)
+    ∙ sym c.in_default.ensures in
     let T = with_new_contour z (contour_with name (map spot_at points)) S in
     by_late S e T c.grown.result
-    (cond-false _ _ _ far ∙ cond-false _ _ _ (ap not section) ∙ cond-false _ _ _ (le-ltb _ _ enough) ∙ cond-false _ _ _ (not_there S.sections name free))
+    (cond-false _ _ _ far ∙ cond-false _ _ _ (ap not section) ∙ cond-false _ _ _ (le-ltb _ _ enough)
+    ∙ cond-false _ _ _ (not_there S.sections name free))
     refl (rw (to_z-of_z w32 z c.ranges.z) at c.grown.ensures)
 
 pub returns-clause-memory : goal.returns-clause-memory
@@ -96,8 +116,14 @@ returns-clause-memory c =
     let points = c.args.points.now in
     let e = AddContour z name points in
     let far : list_any is_far points ≡ false = sym c.any_far.ensures ∙ c.if-any_far.false in
-    let at_z : c.has_section.result ≡ list_any (λ (s : Section). int_eq z s.z) c.sections.result.now = rw (to_z-of_z w32 z c.ranges.z) at c.has_section.ensures in
-    let section : has_section_at S.sections z ≡ true = section_test c.sections.result.now S.sections z c.has_section.result c.sections.ensures.parts at_z ∙ c.if-not-has_section.false in
+    let at_z : c.has_section.result ≡ list_any (λ (s : Section). int_eq z s.z) c.sections.result.now =
+    rw (to_z-of_z w32 z c.ranges.z) at c.has_section.ensures in
+    let section : has_section_at S.sections z ≡ true =
+    section_test c.sections.result.now S.sections z c.has_section.result c.sections.ensures.parts at_z
+    ∙ c.if-not-has_section.false in
     let enough : 3 ≤ length points = omega (arith, c.if-points-lt3.false) in
-    let free : contour_of S.sections name ≡ None = ap (λ (ss : List SectionParts). contour_of ss name) (sym c.sections-2.ensures.parts) ∙ sym c.in_default.ensures in
-    late c.grown.result S e ((cond-false _ _ _ far ∙ cond-false _ _ _ (ap not section) ∙ cond-false _ _ _ (le-ltb _ _ enough) ∙ cond-false _ _ _ (not_there S.sections name free)))
+    let free : contour_of S.sections name ≡ None =
+    ap (λ (ss : List SectionParts). contour_of ss name) (sym c.sections-2.ensures.parts)
+    ∙ sym c.in_default.ensures in
+    late c.grown.result S e ((cond-false _ _ _ far ∙ cond-false _ _ _ (ap not section)
+    ∙ cond-false _ _ _ (le-ltb _ _ enough) ∙ cond-false _ _ _ (not_there S.sections name free)))

@@ -25,7 +25,8 @@ returns-then-all_vertices c =
     let parts = map section_parts c.args.sections.now in
     let short = shorts_held c.args.sections.now ∙ sym c.are_short.ensures ∙ c.if-not-are_short.false in
     let small = smalls_held c.args.sections.now ∙ sym c.are_small.ensures ∙ c.if-not-are_small.false in
-    let over = is_over (vertex_count parts) c.all_vertices.result MAX_VERTICES c.all_vertices.ensures c.if-all_vertices.true in
+    let over = is_over (vertex_count parts) c.all_vertices.result MAX_VERTICES c.all_vertices.ensures
+    c.if-all_vertices.true in
     sym (cond-false _ _ _ (ap not short) ∙ cond-false _ _ _ (ap not small) ∙ cond-true _ _ _ over)
 
 pub returns-then-all_contours-gt-MAX_CONTOURS : goal.returns-then-all_contours-gt-MAX_CONTOURS
@@ -33,15 +34,21 @@ returns-then-all_contours-gt-MAX_CONTOURS c =
     let parts = map section_parts c.args.sections.now in
     let short = shorts_held c.args.sections.now ∙ sym c.are_short.ensures ∙ c.if-not-are_short.false in
     let small = smalls_held c.args.sections.now ∙ sym c.are_small.ensures ∙ c.if-not-are_small.false in
-    let few = not_over (vertex_count parts) c.all_vertices.result MAX_VERTICES c.all_vertices.ensures c.if-all_vertices.false (omega arith) in
-    let more = is_over (contour_count parts) c.all_contours.result MAX_CONTOURS c.all_contours.ensures c.if-all_contours-gt-MAX_CONTOURS.true in
-    sym (cond-false _ _ _ (ap not short) ∙ cond-false _ _ _ (ap not small) ∙ cond-false _ _ _ few ∙ cond-true _ _ _ more)
+    let few = not_over (vertex_count parts) c.all_vertices.result MAX_VERTICES c.all_vertices.ensures
+    c.if-all_vertices.false (omega arith) in
+    let more = is_over (contour_count parts) c.all_contours.result MAX_CONTOURS c.all_contours.ensures
+    c.if-all_contours-gt-MAX_CONTOURS.true in
+    sym (cond-false _ _ _ (ap not short) ∙ cond-false _ _ _ (ap not small) ∙ cond-false _ _ _ few
+    ∙ cond-true _ _ _ more)
 
 pub returns : goal.returns
 returns c =
     let parts = map section_parts c.args.sections.now in
     let short = shorts_held c.args.sections.now ∙ sym c.are_short.ensures ∙ c.if-not-are_short.false in
     let small = smalls_held c.args.sections.now ∙ sym c.are_small.ensures ∙ c.if-not-are_small.false in
-    let few = not_over (vertex_count parts) c.all_vertices.result MAX_VERTICES c.all_vertices.ensures c.if-all_vertices.false (omega arith) in
-    let fewer = not_over (contour_count parts) c.all_contours.result MAX_CONTOURS c.all_contours.ensures c.if-all_contours-gt-MAX_CONTOURS.false (omega arith) in
-    c.none_left.ensures ∙ sym (cond-false _ _ _ (ap not short) ∙ cond-false _ _ _ (ap not small) ∙ cond-false _ _ _ few ∙ cond-false _ _ _ fewer)
+    let few = not_over (vertex_count parts) c.all_vertices.result MAX_VERTICES c.all_vertices.ensures
+    c.if-all_vertices.false (omega arith) in
+    let fewer = not_over (contour_count parts) c.all_contours.result MAX_CONTOURS c.all_contours.ensures
+    c.if-all_contours-gt-MAX_CONTOURS.false (omega arith) in
+    c.none_left.ensures ∙ sym (cond-false _ _ _ (ap not short) ∙ cond-false _ _ _ (ap not small) ∙ cond-false _ _ _ few
+    ∙ cond-false _ _ _ fewer)

@@ -17,7 +17,9 @@ returns-in-Some c =
     let ss = c.args.sections.items in
     let ls = c.args.links.items in
     let T = ended_parts c.args.old.now.cost c.args.old.now.rule ss ls in
-    let late : first_of (late_tests (map section_parts ss)) ≡ Some c.in-Some.fault = ap (λ (xs : List Section). first_of (late_tests (map section_parts xs))) (sym c.deref.ensures.value) ∙ sym c.in-Some.ensures in
+    let late : first_of (late_tests (map section_parts ss)) ≡ Some c.in-Some.fault =
+    ap (λ (xs : List Section). first_of (late_tests (map section_parts xs))) (sym c.deref.ensures.value)
+    ∙ sym c.in-Some.ensures in
     told (IsLateRefusal T) c.in-Some.fault _ (subst (IsLateRefusal T) late (late_is T c.requires.ready))
 
 pub prove-unreachable-requires : goal.prove-unreachable-requires
@@ -25,8 +27,12 @@ prove-unreachable-requires c =
     let ss = c.args.sections.items in
     let ls = c.args.links.items in
     let T = ended_parts c.args.old.now.cost c.args.old.now.rule ss ls in
-    let late : first_of (late_tests (map section_parts ss)) ≡ None = ap (λ (xs : List Section). first_of (late_tests (map section_parts xs))) (sym c.deref.ensures.value) ∙ sym c.in_default.ensures in
-    let lawful = subst₂ (λ (cost : CostParts) (rule : PairRule). IsAccepted (ended_parts cost rule ss ls)) (sym c.cost.ensures.parts) (sym c.rule.ensures) (accepted T c.requires.ready (subst (IsLateRefusal T) late (late_is T c.requires.ready))) in
+    let late : first_of (late_tests (map section_parts ss)) ≡ None =
+    ap (λ (xs : List Section). first_of (late_tests (map section_parts xs))) (sym c.deref.ensures.value)
+    ∙ sym c.in_default.ensures in
+    let lawful = subst₂ (λ (cost : CostParts) (rule : PairRule). IsAccepted (ended_parts cost rule ss ls))
+    (sym c.cost.ensures.parts) (sym c.rule.ensures)
+    (accepted T c.requires.ready (subst (IsLateRefusal T) late (late_is T c.requires.ready))) in
     false≢true (sym c.if-prove.true ∙ c.is_wanting-wanting.ensures (c.in-Err.ensures.fine lawful c.requires.flat))
 
 pub returns-in-Ok : goal.returns-in-Ok
@@ -34,5 +40,10 @@ returns-in-Ok c =
     let ss = c.args.sections.items in
     let ls = c.args.links.items in
     let T = ended_parts c.args.old.now.cost c.args.old.now.rule ss ls in
-    let late : first_of (late_tests (map section_parts ss)) ≡ None = ap (λ (xs : List Section). first_of (late_tests (map section_parts xs))) (sym c.deref.ensures.value) ∙ sym c.in_default.ensures in
-    (subst (IsLateRefusal T) late (late_is T c.requires.ready), c.in-Ok.ensures.made ∙ ap₂ (λ (cost : CostParts) (rule : PairRule). ended_parts cost rule ss ls) c.cost.ensures.parts c.rule.ensures)
+    let late : first_of (late_tests (map section_parts ss)) ≡ None =
+    ap (λ (xs : List Section). first_of (late_tests (map section_parts xs))) (sym c.deref.ensures.value)
+    ∙ sym c.in_default.ensures in (
+      subst (IsLateRefusal T) late (late_is T c.requires.ready),
+      c.in-Ok.ensures.made
+          ∙ ap₂ (λ (cost : CostParts) (rule : PairRule). ended_parts cost rule ss ls) c.cost.ensures.parts c.rule.ensures,
+    )

@@ -15,9 +15,12 @@ remade-requires-clause-ready c =
     let S = c.args.sections.now in
     let name = c.args.name.now in
     let T : Parts = with_spots c.args.name.now (map spot_at c.args.spots.now) c.args.sections.now in
-    let parts : map section_parts c.in_ok-changed.changed.items ≡ T.sections = c.in_ok-changed.ensures.parts ∙ ap (map (reshaped_in name (map spot_at c.args.spots.now))) c.sections.ensures.parts in
+    let parts : map section_parts c.in_ok-changed.changed.items ≡ T.sections = c.in_ok-changed.ensures.parts
+    ∙ ap (map (reshaped_in name (map spot_at c.args.spots.now))) c.sections.ensures.parts in
     let links : map link_parts c.in_ok-links.links.items ≡ T.links = c.in_ok-links.ensures ∙ c.links.ensures.parts in
-    made_ready T c.in_ok-changed.changed.items c.in_ok-links.links.items parts links (ready_reshaped S name (map spot_at c.args.spots.now) (ready S c.sections.ensures.accepted) (omega (arith, c.requires.enough, length-map c.args.spots.now spot_at)) c.requires.in_range)
+    made_ready T c.in_ok-changed.changed.items c.in_ok-links.links.items parts links
+    (ready_reshaped S name (map spot_at c.args.spots.now) (ready S c.sections.ensures.accepted)
+    (omega (arith, c.requires.enough, length-map c.args.spots.now spot_at)) c.requires.in_range)
 
 pub remade-requires-clause-flat : goal.remade-requires-clause-flat
 remade-requires-clause-flat c = flat_of c.in_ok-changed.changed.items c.in_ok-changed.ensures.level
@@ -27,6 +30,7 @@ returns c =
     let S = c.args.sections.now in
     let name = c.args.name.now in
     let T : Parts = with_spots c.args.name.now (map spot_at c.args.spots.now) c.args.sections.now in
-    let parts : map section_parts c.in_ok-changed.changed.items ≡ T.sections = c.in_ok-changed.ensures.parts ∙ ap (map (reshaped_in name (map spot_at c.args.spots.now))) c.sections.ensures.parts in
+    let parts : map section_parts c.in_ok-changed.changed.items ≡ T.sections = c.in_ok-changed.ensures.parts
+    ∙ ap (map (reshaped_in name (map spot_at c.args.spots.now))) c.sections.ensures.parts in
     let links : map link_parts c.in_ok-links.links.items ≡ T.links = c.in_ok-links.ensures ∙ c.links.ensures.parts in
     made_answers T c.in_ok-changed.changed.items c.in_ok-links.links.items c.remade.result parts links c.remade.ensures

@@ -18,6 +18,9 @@ returns-then-len-count c =
     ∙ ap (λ (xs : List (Bor (List ℕ))). z ∷ texts xs) c.in-Some-split_first.ensures.cases.0
     ∙ ap (λ (xs : List (Bor (List ℕ))). z ∷ name ∷ texts xs) c.in-Some-split_first-2.ensures.cases.0 in
     subst (λ (xs : List (List ℕ)). IsNoEdit (codes "ADD" ∷ xs)) (sym whole)
-    (not_counted z name count (texts places) c.in-Some-index_of.count c.in-Some-2.points.items c.in-Some-index_of.ensures
-    (subst (λ (o : Option (Vec Spot Global)). MatchOption o (NoSpots (texts places)) (λ v. AreSpots (texts places) v.items)) c.in-Some-2.is c.in_ok-points.ensures)
+    (not_counted z name count (texts places) c.in-Some-index_of.count c.in-Some-2.points.items
+    c.in-Some-index_of.ensures
+    (subst (λ (o : Option (Vec Spot Global)).
+    MatchOption o (NoSpots (texts places)) (λ v. AreSpots (texts places) v.items)) c.in-Some-2.is
+    c.in_ok-points.ensures)
     (λ e. c.if-len-count.true (omega (arith, e, c.len.ensures))))

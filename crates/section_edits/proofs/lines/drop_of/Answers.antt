@@ -9,4 +9,5 @@ pub returns-then-not-is_empty-clause-reading : goal.returns-then-not-is_empty-cl
 returns-then-not-is_empty-clause-reading c =
     let ws = c.args.words.now in
     let more = eqb-false _ 0 (sym c.is_empty.ensures ∙ c.if-not-is_empty.true) in
-    drop_only (texts ws) (λ name m n. absurd (omega (arith, matches_length (texts ws) (text name ∷ []) m, texts_length ws, more, c.in-Some.ensures.cases.1)))
+    drop_only (texts ws) (λ name m n. absurd
+    (omega (arith, matches_length (texts ws) (text name ∷ []) m, texts_length ws, more, c.in-Some.ensures.cases.1)))

@@ -10,4 +10,11 @@ returns-then-not-is_empty-clause-reading c =
     let ws = c.args.words.now in
     let more = eqb-false _ 0 (sym c.is_empty.ensures ∙ c.if-not-is_empty.true) in
     remove_only (texts ws)
-    (λ name i m n k. absurd (omega (arith, matches_length (texts ws) (text name ∷ number (pos i) ∷ []) m, texts_length ws, more, c.in-Some.ensures.cases.1, c.in-Some-split_first.ensures.cases.1)))
+    (λ name i m n k. absurd (omega (
+      arith,
+      matches_length (texts ws) (text name ∷ number (pos i) ∷ []) m,
+      texts_length ws,
+      more,
+      c.in-Some.ensures.cases.1,
+      c.in-Some-split_first.ensures.cases.1,
+    )))

@@ -16,8 +16,12 @@ solutions-requires g c =
     let origins = c.in_ok-plan.plan.origins.items in
     let xs = c.args.kept_solved.now in
     let ys = c.deref-3.result.now in
-    let solved : SolvesEach solving ys = subst (SolvesEach solving) (sym c.deref-3.ensures.value) (subst (λ (l : List (Bor Strip)). SolvesEach (referents l) c.in_ok-solved.solved.items) c.deref.ensures.value c.in_ok-solved.ensures.solved) in
-    subst (λ (os : List Origin). All (IsAmong (length xs) (length ys)) os) (sym c.deref-2.ensures.value) (all_among kept strips solving origins xs ys c.in_ok-plan.ensures c.requires.kept solved)
+    let solved : SolvesEach solving ys =
+    subst (SolvesEach solving) (sym c.deref-3.ensures.value)
+    (subst (λ (l : List (Bor Strip)). SolvesEach (referents l) c.in_ok-solved.solved.items) c.deref.ensures.value
+    c.in_ok-solved.ensures.solved) in
+    subst (λ (os : List Origin). All (IsAmong (length xs) (length ys)) os) (sym c.deref-2.ensures.value)
+    (all_among kept strips solving origins xs ys c.in_ok-plan.ensures c.requires.kept solved)
 
 pub returns-clause-solved : goal.returns-clause-solved
 returns-clause-solved g c =
@@ -27,12 +31,21 @@ returns-clause-solved g c =
     let origins = c.in_ok-plan.plan.origins.items in
     let xs = c.args.kept_solved.now in
     let ys = c.deref-3.result.now in
-    let solved : SolvesEach solving ys = subst (SolvesEach solving) (sym c.deref-3.ensures.value) (subst (λ (l : List (Bor Strip)). SolvesEach (referents l) c.in_ok-solved.solved.items) c.deref.ensures.value c.in_ok-solved.ensures.solved) in
-    all_solved kept strips solving origins xs ys c.in_ok-solutions.solutions.items c.in_ok-plan.ensures c.requires.kept solved
+    let solved : SolvesEach solving ys =
+    subst (SolvesEach solving) (sym c.deref-3.ensures.value)
+    (subst (λ (l : List (Bor Strip)). SolvesEach (referents l) c.in_ok-solved.solved.items) c.deref.ensures.value
+    c.in_ok-solved.ensures.solved) in
+    all_solved kept strips solving origins xs ys c.in_ok-solutions.solutions.items c.in_ok-plan.ensures c.requires.kept
+    solved
     (c.in_ok-solutions.ensures ∙ ap (map (solution_from xs ys)) c.deref-2.ensures.value)
 
 pub returns-clause-fresh : goal.returns-clause-fresh
-returns-clause-fresh g c = omega (arith, c.len-fresh.ensures, c.in_ok-plan.ensures.fresh, length-map c.in_ok-plan.plan.solving.items (λ (q : Bor Strip). q.now))
+returns-clause-fresh g c = omega (
+  arith,
+  c.len-fresh.ensures,
+  c.in_ok-plan.ensures.fresh,
+  length-map c.in_ok-plan.plan.solving.items (λ (q : Bor Strip). q.now),
+)
 
 pub returns-clause-few : goal.returns-clause-few
 returns-clause-few g c =

@@ -21,9 +21,12 @@ returns-in_err-pair-clause-fault c =
     let sides = sides_between (ring_views c.args.low.now) (ring_views c.args.high.now) c.args.gap in
     let fault = c.in_err-pair.field-0.0 in
     let exit = err_from_is_err_and c.from_residual.result c.from_residual.ensures.1 in
-    err_told c.from_residual.result fault (OrNoMemory (IsFirstFault IsShort HasLongSide (flat_map sides (map members_of c.args.components.now))))
+    err_told c.from_residual.result fault
+    (OrNoMemory (IsFirstFault IsShort HasLongSide (flat_map sides (map members_of c.args.components.now))))
     (exit.1 ∙ ap (λ (e : Fault). Err e) exit.2)
-    (long_here members_of sides IsShort HasLongSide c.args.components.now c.loop-component.component-index c.component-item.result fault c.loop-component-test.true c.component-item.is c.loop-component.invariant.short c.in_err-pair.ensures.fault)
+    (long_here members_of sides IsShort HasLongSide c.args.components.now c.loop-component.component-index
+    c.component-item.result fault c.loop-component-test.true c.component-item.is c.loop-component.invariant.short
+    c.in_err-pair.ensures.fault)
 
 pub loop-component-preserved : goal.loop-component-preserved
 loop-component-preserved c =
@@ -37,15 +40,21 @@ loop-component-preserved c =
     let more : new ≡ old ++ c.in_ok-pair.pair ∷ [] = c.in_ok-add_pair.ensures in
     let strip : GapPair → Type 0 = λ p. IsStrip p.pair in
     record {
-      pairs = pairs_more members_of pair pair_parts old new c.in_ok-pair.pair components i component c.loop-component-test.true c.component-item.is more c.loop-component.invariant.pairs c.in_ok-pair.ensures.value;
-      strips = subst (λ (ps : List GapPair). All strip ps) (sym more) (All-append strip old (c.in_ok-pair.pair ∷ []) c.loop-component.invariant.strips (all_one strip c.in_ok-pair.pair c.in_ok-pair.ensures.strip));
-      short = short_more members_of sides IsShort components i component c.loop-component-test.true c.component-item.is c.loop-component.invariant.short c.in_ok-pair.ensures.short;
+      pairs = pairs_more members_of pair pair_parts old new c.in_ok-pair.pair components i component
+          c.loop-component-test.true c.component-item.is more c.loop-component.invariant.pairs
+          c.in_ok-pair.ensures.value;
+      strips = subst (λ (ps : List GapPair). All strip ps) (sym more)
+          (All-append strip old (c.in_ok-pair.pair ∷ []) c.loop-component.invariant.strips
+          (all_one strip c.in_ok-pair.pair c.in_ok-pair.ensures.strip));
+      short = short_more members_of sides IsShort components i component c.loop-component-test.true c.component-item.is
+          c.loop-component.invariant.short c.in_ok-pair.ensures.short;
     }
 
 pub returns-clause-pairs : goal.returns-clause-pairs
 returns-clause-pairs c =
     let pair = pair_between c.args.cost (ring_views c.args.low.now) (ring_views c.args.high.now) c.args.gap in
-    c.loop-component.invariant.pairs ∙ ap (λ (cs : List Component). map pair (map members_of cs)) (take_all c.loop-component.component-index c.args.components.now c.loop-component-test.false)
+    c.loop-component.invariant.pairs ∙ ap (λ (cs : List Component). map pair (map members_of cs))
+    (take_all c.loop-component.component-index c.args.components.now c.loop-component-test.false)
 
 pub returns-clause-strips : goal.returns-clause-strips
 returns-clause-strips c = c.loop-component.invariant.strips
@@ -53,4 +62,6 @@ returns-clause-strips c = c.loop-component.invariant.strips
 pub returns-clause-short : goal.returns-clause-short
 returns-clause-short c =
     let sides = sides_between (ring_views c.args.low.now) (ring_views c.args.high.now) c.args.gap in
-    subst (λ (cs : List Component). All IsShort (flat_map sides (map members_of cs))) (take_all c.loop-component.component-index c.args.components.now c.loop-component-test.false) c.loop-component.invariant.short
+    subst (λ (cs : List Component). All IsShort (flat_map sides (map members_of cs)))
+    (take_all c.loop-component.component-index c.args.components.now c.loop-component-test.false)
+    c.loop-component.invariant.short

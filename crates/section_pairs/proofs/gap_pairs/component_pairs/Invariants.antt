@@ -8,7 +8,10 @@ use Rattle.section_pairs.proofs.gap_pairs.component_pairs.Given as goal
 
 abbrev pub invariant-loop-component : goal.invariant-loop-component
 invariant-loop-component l = record {
-  pairs : map pair_parts l.pairs.items ≡ map (pair_between l.cost (ring_views l.low) (ring_views l.high) l.gap) (map members_of (take l.component-index l.components));
+  pairs : map pair_parts l.pairs.items
+      ≡ map (pair_between l.cost (ring_views l.low) (ring_views l.high) l.gap)
+      (map members_of (take l.component-index l.components));
   strips : All (λ p. IsStrip p.pair) l.pairs.items;
-  short : All IsShort (flat_map (sides_between (ring_views l.low) (ring_views l.high) l.gap) (map members_of (take l.component-index l.components)));
+  short : All IsShort (flat_map (sides_between (ring_views l.low) (ring_views l.high) l.gap)
+      (map members_of (take l.component-index l.components)));
 }

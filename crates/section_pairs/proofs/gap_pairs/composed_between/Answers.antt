@@ -10,10 +10,14 @@ pub component_pairs-requires-clause-below : goal.component_pairs-requires-clause
 component_pairs-requires-clause-below c =
     let S = c.args.sections.now in
     let cs = c.args.components.now in
-    subst (λ (n : ℕ). All (λ (p : Component). ArePicked n p.below.items) cs) (sym (count_at S c.args.gap c.args.low.now c.requires.low)) (below_places (Correspond S c.args.gap) _ _ cs c.requires.members.components)
+    subst (λ (n : ℕ). All (λ (p : Component). ArePicked n p.below.items) cs)
+    (sym (count_at S c.args.gap c.args.low.now c.requires.low))
+    (below_places (Correspond S c.args.gap) _ _ cs c.requires.members.components)
 
 pub component_pairs-requires-clause-above : goal.component_pairs-requires-clause-above
 component_pairs-requires-clause-above c =
     let S = c.args.sections.now in
     let cs = c.args.components.now in
-    subst (λ (n : ℕ). All (λ (p : Component). ArePicked n p.above.items) cs) (sym (count_at S (c.args.gap + 1) c.args.high.now c.requires.high)) (above_places (Correspond S c.args.gap) _ _ cs c.requires.members.components)
+    subst (λ (n : ℕ). All (λ (p : Component). ArePicked n p.above.items) cs)
+    (sym (count_at S (c.args.gap + 1) c.args.high.now c.requires.high))
+    (above_places (Correspond S c.args.gap) _ _ cs c.requires.members.components)

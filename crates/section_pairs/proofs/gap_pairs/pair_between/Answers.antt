@@ -21,8 +21,10 @@ returns-in_err-below-clause-fault c =
     let fault = c.in_err-below.field-0.0 in
     let exit = err_from_is_err_and c.from_residual.result c.from_residual.ensures.1 in
     let long : OrNoMemory (HasLongSide (g + 1, length (composite_at low part.below).points)) fault =
-    subst (λ (places : List ℕ). OrNoMemory (HasLongSide (g + 1, length (composite_at low places).points)) fault) c.deref.ensures.value c.in_err-below.ensures.fault in
-    err_told {X = GapPair} c.from_residual.result fault (OrNoMemory (IsFirstFault IsShort HasLongSide (sides_between low high g part)))
+    subst (λ (places : List ℕ). OrNoMemory (HasLongSide (g + 1, length (composite_at low places).points)) fault)
+    c.deref.ensures.value c.in_err-below.ensures.fault in
+    err_told {X = GapPair} c.from_residual.result fault
+    (OrNoMemory (IsFirstFault IsShort HasLongSide (sides_between low high g part)))
     (exit.1 ∙ ap (λ (e : Fault). Err e) exit.2) (below_long low high g part fault long)
 
 pub returns-in_err-above-clause-fault : goal.returns-in_err-above-clause-fault
@@ -34,9 +36,13 @@ returns-in_err-above-clause-fault c =
     let fault = c.in_err-above.field-0.0 in
     let exit = err_from_is_err_and c.from_residual-in_err-above.result c.from_residual-in_err-above.ensures.1 in
     let value : length c.in_ok-below.below.points.items ≡ length (composite_at low part.below).points =
-    ap (λ (r : RingView). length r.points) c.in_ok-below.ensures.value ∙ ap (λ (places : List ℕ). length (composite_at low places).points) c.deref.ensures.value in
-    let short : length (composite_at low part.below).points ≤ MAX_COMPOSITE_VERTICES = omega (arith, value, c.in_ok-below.ensures.ring.few) in
+    ap (λ (r : RingView). length r.points) c.in_ok-below.ensures.value
+    ∙ ap (λ (places : List ℕ). length (composite_at low places).points) c.deref.ensures.value in
+    let short : length (composite_at low part.below).points ≤ MAX_COMPOSITE_VERTICES =
+    omega (arith, value, c.in_ok-below.ensures.ring.few) in
     let long : OrNoMemory (HasLongSide (g + 2, length (composite_at high part.above).points)) fault =
-    subst (λ (places : List ℕ). OrNoMemory (HasLongSide (g + 2, length (composite_at high places).points)) fault) c.deref-2.ensures.value c.in_err-above.ensures.fault in
-    err_told {X = GapPair} c.from_residual-in_err-above.result fault (OrNoMemory (IsFirstFault IsShort HasLongSide (sides_between low high g part)))
+    subst (λ (places : List ℕ). OrNoMemory (HasLongSide (g + 2, length (composite_at high places).points)) fault)
+    c.deref-2.ensures.value c.in_err-above.ensures.fault in
+    err_told {X = GapPair} c.from_residual-in_err-above.result fault
+    (OrNoMemory (IsFirstFault IsShort HasLongSide (sides_between low high g part)))
     (exit.1 ∙ ap (λ (e : Fault). Err e) exit.2) (above_long low high g part fault short long)

@@ -8,5 +8,6 @@ loop-gap-preserved c =
       first = omega (arith, c.loop-gap.invariant.first, c.vertices_at-first.ensures.next);
       rings = c.in_ok-high.ensures.rings;
       limits = c.in_ok-high.ensures.limits;
-      found = c.joined-found.ensures c.args.sections.now c.args.begin g (g + 1) c.loop-gap.invariant.found c.composed_gap-more.ensures;
+      found = c.joined-found.ensures c.args.sections.now c.args.begin g (g + 1) c.loop-gap.invariant.found
+          c.composed_gap-more.ensures;
     }

@@ -5,7 +5,8 @@ use Rattle.section_pairs.proofs.kept_pairs.all_gap_pairs.Goals as goal
 pub gap_pairs-more-requires-clause-known : goal.gap_pairs-more-requires-clause-known
 gap_pairs-more-requires-clause-known c = λ there.
     let run = c.run_end-end.ensures in
-    gap_here c.args.old.now c.args.old_pairs.now c.loop-gap.gap c.loop-gap.begin c.run_end-end.result c.requires.old c.loop-gap.invariant.known run.begin run.end run.run run.stop there
+    gap_here c.args.old.now c.args.old_pairs.now c.loop-gap.gap c.loop-gap.begin c.run_end-end.result c.requires.old
+    c.loop-gap.invariant.known run.begin run.end run.run run.stop there
 
 pub gap_pairs-more-requires-clause-same : goal.gap_pairs-more-requires-clause-same
 gap_pairs-more-requires-clause-same c = λ t. c.requires.same c.loop-gap.gap (sym c.is_marked-mark.ensures ∙ t)
@@ -17,7 +18,8 @@ loop-gap-preserved c =
     let g = c.loop-gap.gap in
     record {
       begin = run.end;
-      known = next_begin c.args.old.now c.args.old_pairs.now g c.loop-gap.begin c.run_end-end.result inv.known run.begin run.end run.run run.stop;
+      known = next_begin c.args.old.now c.args.old_pairs.now g c.loop-gap.begin c.run_end-end.result inv.known run.begin
+          run.end run.run run.stop;
       from = c.next_shift-high.ensures.from;
       to = c.next_shift-high.ensures.to;
       found = c.joined-found.ensures c.args.sections.now 0 g (g + 1) inv.found c.gap_pairs-more.ensures;

@@ -13,7 +13,9 @@ moved_pairs-requires c =
     let k = c.requires.known e.there in
     let read = c.sections-all.ensures in
     let few = few_in_all c.sections-all.result.now c.args.sections.now read.«data» read.kept in
-    subst (λ (ps : List PairParts). All (CanMovePair c.args.low c.args.high) ps) (sym k.pairs) (pairs_movable c.args.old.now c.args.sections.now c.args.gap c.args.low c.args.high k.members e c.requires.shifts few)
+    subst (λ (ps : List PairParts). All (CanMovePair c.args.low c.args.high) ps) (sym k.pairs)
+    (pairs_movable c.args.old.now c.args.sections.now c.args.gap c.args.low c.args.high k.members e
+    c.requires.shifts few)
 
 pub returns-in_ok-moved_pairs : goal.returns-in_ok-moved_pairs
 returns-in_ok-moved_pairs c =
@@ -24,5 +26,6 @@ returns-in_ok-moved_pairs c =
     let k = c.requires.known e.there in
     let moved = c.in_ok-moved_pairs.ensures in
     one_result T g k.members (Ok c.in_ok-moved_pairs.field-0) (members_same S T g k.members e k.are_members)
-    (moved.pairs ∙ ap (map (moved_pair c.args.low c.args.high)) k.pairs ∙ pairs_moved S T g c.args.low c.args.high k.members e c.requires.shifts) moved.strips
+    (moved.pairs ∙ ap (map (moved_pair c.args.low c.args.high)) k.pairs
+    ∙ pairs_moved S T g c.args.low c.args.high k.members e c.requires.shifts) moved.strips
     (sides_stay S T g k.members e k.short) tt

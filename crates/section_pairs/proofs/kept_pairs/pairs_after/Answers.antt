@@ -11,14 +11,17 @@ returns-in_err-test_sections_after-clause-fault c =
     let S = c.args.sections.now in
     let fault = c.in_err-test_sections_after.field-0.0 in
     let exit = err_from_is_err_and c.from_residual.result c.from_residual.ensures.1 in
-    err_told c.from_residual.result fault (IsPairsFault S) (exit.1 ∙ ap (λ (e : Fault). Err e) exit.2) (found_in_contours S fault c.in_err-test_sections_after.ensures)
+    err_told c.from_residual.result fault (IsPairsFault S) (exit.1 ∙ ap (λ (e : Fault). Err e) exit.2)
+    (found_in_contours S fault c.in_err-test_sections_after.ensures)
 
 pub returns-in_err-test_sections_after-clause-memory : goal.returns-in_err-test_sections_after-clause-memory
 returns-in_err-test_sections_after-clause-memory c =
     let S = c.args.sections.now in
     let fault = c.in_err-test_sections_after.field-0.0 in
     let exit = err_from_is_err_and c.from_residual.result c.from_residual.ensures.1 in
-    err_told c.from_residual.result fault (IsLateMemory S) (exit.1 ∙ ap (λ (e : Fault). Err e) exit.2) (late_in_contours S fault c.in_err-test_sections_after.ensures)
+    err_told c.from_residual.result fault (IsLateMemory S) (exit.1 ∙ ap (λ (e : Fault). Err e) exit.2)
+    (late_in_contours S fault c.in_err-test_sections_after.ensures)
 
 pub returns-clause-memory : goal.returns-clause-memory
-returns-clause-memory c = always c.linked.result (IsLateMemory c.args.sections.now) (λ f e. c.in_ok-test_sections_after.ensures)
+returns-clause-memory c = always c.linked.result (IsLateMemory c.args.sections.now)
+    (λ f e. c.in_ok-test_sections_after.ensures)

@@ -16,7 +16,9 @@ moved_pair-requires c =
     let i = c.loop-pair.pair-index in
     let p = c.pair-item.result in
     let can : PairParts → Type 0 = λ q. CanMovePair c.args.low c.args.high q in
-    subst can (get_or-map pair_parts pairs i p (pair_parts p) c.loop-pair-test.true ∙ ap pair_parts (sym c.pair-item.is)) (c.requires i (pair_parts p) (omega (arith, c.loop-pair-test.true, length-map pairs pair_parts)))
+    subst can (get_or-map pair_parts pairs i p (pair_parts p) c.loop-pair-test.true
+    ∙ ap pair_parts (sym c.pair-item.is))
+    (c.requires i (pair_parts p) (omega (arith, c.loop-pair-test.true, length-map pairs pair_parts)))
 
 pub loop-pair-preserved : goal.loop-pair-preserved
 loop-pair-preserved c =
@@ -26,6 +28,10 @@ loop-pair-preserved c =
     let more : new ≡ old ++ pair ∷ [] = c.in_ok-add_pair.ensures in
     let strip : GapPair → Type 0 = λ p. IsStrip p.pair in
     record {
-      pairs = pairs_more pair_parts (moved_pair c.args.low c.args.high) pair_parts old new pair c.args.pairs.now c.loop-pair.pair-index c.pair-item.result c.loop-pair-test.true c.pair-item.is more c.loop-pair.invariant.pairs c.in_ok-pair.ensures.value;
-      strips = subst (λ (ps : List GapPair). All strip ps) (sym more) (All-append strip old (pair ∷ []) c.loop-pair.invariant.strips (all_one strip pair c.in_ok-pair.ensures.strip));
+      pairs = pairs_more pair_parts (moved_pair c.args.low c.args.high) pair_parts old new pair c.args.pairs.now
+          c.loop-pair.pair-index c.pair-item.result c.loop-pair-test.true c.pair-item.is more
+          c.loop-pair.invariant.pairs c.in_ok-pair.ensures.value;
+      strips = subst (λ (ps : List GapPair). All strip ps) (sym more)
+          (All-append strip old (pair ∷ []) c.loop-pair.invariant.strips
+          (all_one strip pair c.in_ok-pair.ensures.strip));
     }

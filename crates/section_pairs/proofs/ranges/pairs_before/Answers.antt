@@ -13,9 +13,11 @@ pub returns-in_err-more : goal.returns-in_err-more
 returns-in_err-more c = λ S b m e h k.
     let fault = c.in_err-more.field-0.0 in
     let exit = err_from_is_err_and c.from_residual.result c.from_residual.ensures.1 in
-    of_err_back c.from_residual.result fault (λ (v : Vec GapPair Global). AreHeldIn S b e v.items) (OrNoMemory (IsSideFaultIn S b e)) (exit.1 ∙ ap (λ (x : Fault). Err x) exit.2)
+    of_err_back c.from_residual.result fault (λ (v : Vec GapPair Global). AreHeldIn S b e v.items)
+    (OrNoMemory (IsSideFaultIn S b e)) (exit.1 ∙ ap (λ (x : Fault). Err x) exit.2)
     (told_right S b m e fault c.args.pairs.items h
-    (of_err c.args.back fault (λ (v : Vec GapPair Global). AreHeldIn S m e v.items) (OrNoMemory (IsSideFaultIn S m e)) c.in_err-more.was k))
+    (of_err c.args.back fault (λ (v : Vec GapPair Global). AreHeldIn S m e v.items) (OrNoMemory (IsSideFaultIn S m e))
+    c.in_err-more.was k))
 
 pub returns : goal.returns
 returns c = λ S b m e h k.
@@ -24,4 +26,5 @@ returns c = λ S b m e h k.
     let whole : c.append.new.self.items ≡ old ++ more.items = c.in_ok-append.ensures.items in
     subst (λ (ps : List GapPair). AreHeldIn S b e ps) (sym whole)
     (held_joined S b m e old more.items h
-    (of_ok c.args.back more (λ (v : Vec GapPair Global). AreHeldIn S m e v.items) (OrNoMemory (IsSideFaultIn S m e)) c.in_ok-more.was k))
+    (of_ok c.args.back more (λ (v : Vec GapPair Global). AreHeldIn S m e v.items) (OrNoMemory (IsSideFaultIn S m e))
+    c.in_ok-more.was k))

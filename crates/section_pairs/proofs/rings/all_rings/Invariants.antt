@@ -10,6 +10,7 @@ abbrev pub invariant-loop-section : goal.invariant-loop-section
 invariant-loop-section l = record {
   count : length l.rings.items ≡ l.section-index;
   first : l.first_id ≡ sum_by section_vertices (take l.section-index l.all);
-  views : (s : ℕ) (d : Vec Ring Global) → s < length l.rings.items → ring_views (get_or l.rings.items s d).items ≡ rings_at l.sections s;
+  views : (s : ℕ) (d : Vec Ring Global) → s < length l.rings.items
+      → ring_views (get_or l.rings.items s d).items ≡ rings_at l.sections s;
   limits : All (λ v. AreSectionRings v.items) l.rings.items;
 }

@@ -15,8 +15,10 @@ oriented-requires-clause-ids c =
     let S = c.args.sections.now in
     let ss = c.sections.result.now in
     let s = c.index-sections-place.result in
-    let there : c.args.place < length ss = omega (arith, c.requires.there, count_is ss S.sections c.sections.ensures.«data») in
-    subst (λ (n : ℕ). n + section_vertices s ≤ MAX_VERTICES) (first_is ss S c.args.place c.sections.ensures.«data» ∙ sym c.requires.first)
+    let there : c.args.place < length ss =
+    omega (arith, c.requires.there, count_is ss S.sections c.sections.ensures.«data») in
+    subst (λ (n : ℕ). n + section_vertices s ≤ MAX_VERTICES)
+    (first_is ss S c.args.place c.sections.ensures.«data» ∙ sym c.requires.first)
     (few_ids ss c.args.place s c.sections.ensures.kept there c.index-sections-place.is)
 
 pub returns-clause-rings : goal.returns-clause-rings
@@ -24,18 +26,25 @@ returns-clause-rings c =
     let S = c.args.sections.now in
     let ss = c.sections.result.now in
     let s = c.index-sections-place.result in
-    let there : c.args.place < length ss = omega (arith, c.requires.there, count_is ss S.sections c.sections.ensures.«data») in
+    let there : c.args.place < length ss =
+    omega (arith, c.requires.there, count_is ss S.sections c.sections.ensures.«data») in
     let first = c.requires.first ∙ sym (first_is ss S c.args.place c.sections.ensures.«data») in
-    ok_then c.oriented.result (λ (v : Vec Ring Global). ring_views v.items ≡ oriented c.args.first_id (point_lists s)) (λ (v : Vec Ring Global). All IsContour v.items) (λ (v : Vec Ring Global). ring_views v.items ≡ rings_at S c.args.place)
+    ok_then c.oriented.result (λ (v : Vec Ring Global). ring_views v.items ≡ oriented c.args.first_id (point_lists s))
+    (λ (v : Vec Ring Global). All IsContour v.items)
+    (λ (v : Vec Ring Global). ring_views v.items ≡ rings_at S c.args.place)
     c.oriented.ensures.rings c.oriented.ensures.contours
-    (λ v e k. rings_are ss S c.args.place c.args.first_id s v.items c.sections.ensures.«data» there c.index-sections-place.is first e)
+    (λ v e k. rings_are ss S c.args.place c.args.first_id s v.items c.sections.ensures.«data» there
+    c.index-sections-place.is first e)
 
 pub returns-clause-limits : goal.returns-clause-limits
 returns-clause-limits c =
     let S = c.args.sections.now in
     let ss = c.sections.result.now in
     let s = c.index-sections-place.result in
-    let there : c.args.place < length ss = omega (arith, c.requires.there, count_is ss S.sections c.sections.ensures.«data») in
-    ok_then c.oriented.result (λ (v : Vec Ring Global). ring_views v.items ≡ oriented c.args.first_id (point_lists s)) (λ (v : Vec Ring Global). All IsContour v.items) (λ (v : Vec Ring Global). AreSectionRings v.items)
+    let there : c.args.place < length ss =
+    omega (arith, c.requires.there, count_is ss S.sections c.sections.ensures.«data») in
+    ok_then c.oriented.result (λ (v : Vec Ring Global). ring_views v.items ≡ oriented c.args.first_id (point_lists s))
+    (λ (v : Vec Ring Global). All IsContour v.items) (λ (v : Vec Ring Global). AreSectionRings v.items)
     c.oriented.ensures.rings c.oriented.ensures.contours
-    (λ v e k. limits_kept c.args.first_id s v.items (kept_outlines ss c.args.place s c.sections.ensures.kept there c.index-sections-place.is) e k)
+    (λ v e k. limits_kept c.args.first_id s v.items
+    (kept_outlines ss c.args.place s c.sections.ensures.kept there c.index-sections-place.is) e k)

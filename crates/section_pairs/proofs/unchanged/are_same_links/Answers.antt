@@ -9,4 +9,7 @@ returns-then-not-is_same_link-clause-all c e =
     let one = c.args.one.now in
     let other = c.args.other.now in
     let i = c.loop-place.place in
-    absurd (false≢true (sym c.if-not-is_same_link.true ∙ c.is_same_link.ensures.all (images_at link_parts one other i c.index-one-place.result c.index-other-place.result e c.loop-place-test.true (omega (arith, c.loop-place-test.true, c.if-one-other.false)) c.index-one-place.is c.index-other-place.is)))
+    absurd (false≢true (sym c.if-not-is_same_link.true
+    ∙ c.is_same_link.ensures.all (images_at link_parts one other i c.index-one-place.result
+    c.index-other-place.result e c.loop-place-test.true
+    (omega (arith, c.loop-place-test.true, c.if-one-other.false)) c.index-one-place.is c.index-other-place.is)))

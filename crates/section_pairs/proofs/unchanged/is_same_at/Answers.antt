@@ -12,5 +12,7 @@ returns-then-place-sections-clause-all c h =
     let x = c.index-old-place.result in
     let y = c.index-sections-place.result in
     c.is_same_section.ensures.all
-    (image_at section_data old i x (section_data x) (omega (arith, h.there, length-map old section_data)) c.index-old-place.is ∙ h.same (section_data x)
-    ∙ sym (image_at section_data new i y (section_data x) (omega (arith, h.also_there, length-map new section_data)) c.index-sections-place.is))
+    (image_at section_data old i x (section_data x) (omega (arith, h.there, length-map old section_data))
+    c.index-old-place.is ∙ h.same (section_data x)
+    ∙ sym (image_at section_data new i y (section_data x) (omega (arith, h.also_there, length-map new section_data))
+    c.index-sections-place.is))

@@ -6,6 +6,8 @@ use Rattle.section_pairs.proofs.unchanged.same_sections.Given as goal
 abbrev pub invariant-loop-place : goal.invariant-loop-place
 invariant-loop-place l = record {
   count : length l.marks.items ≡ l.place;
-  same : (k : ℕ) → get_or l.marks.items k false ≡ true → IsSameAt (map section_data l.old) (map section_data l.sections) k;
-  all : (k : ℕ) → k < l.place → IsSameAt (map section_data l.old) (map section_data l.sections) k → get_or l.marks.items k false ≡ true;
+  same : (k : ℕ) → get_or l.marks.items k false ≡ true
+      → IsSameAt (map section_data l.old) (map section_data l.sections) k;
+  all : (k : ℕ) → k < l.place → IsSameAt (map section_data l.old) (map section_data l.sections) k
+      → get_or l.marks.items k false ≡ true;
 }

@@ -15,8 +15,11 @@ else h a b e t = t ∙ ap (λ (x : Bool). x && b) (sym t ∙ e)
 pub returns-then-has_pair : goal.returns-then-has_pair
 returns-then-has_pair c =
     let g = c.args.gap in
-    then c.has_pair.result c.all_single.result _ _ (c.has_pair.ensures ∙ sym (any_map pair_parts (is_in g) c.args.pairs.now)) c.if-has_pair.true
-    (c.all_single.ensures ∙ sym (list_all-map (λ (p : PairParts). not (is_in g p) || is_single p) pair_parts c.args.pairs.now))
+    then c.has_pair.result c.all_single.result _ _
+    (c.has_pair.ensures ∙ sym (any_map pair_parts (is_in g) c.args.pairs.now)) c.if-has_pair.true
+    (c.all_single.ensures ∙ sym (list_all-map (λ (p : PairParts). not (is_in g p) || is_single p) pair_parts
+    c.args.pairs.now))
 
 pub returns-else-has_pair : goal.returns-else-has_pair
-returns-else-has_pair c = else c.has_pair.result _ _ (c.has_pair.ensures ∙ sym (any_map pair_parts (is_in c.args.gap) c.args.pairs.now)) c.if-has_pair.false
+returns-else-has_pair c = else c.has_pair.result _ _
+    (c.has_pair.ensures ∙ sym (any_map pair_parts (is_in c.args.gap) c.args.pairs.now)) c.if-has_pair.false

@@ -29,9 +29,13 @@ loop-pair-preserved c =
     let mark = marked S (map pair_parts ps) c.args.dense.now p.gap false c.requires.dense (omega (arith, there)) in
     elim c.if-dense-pair.branch [
       | then-dense-pair+in_ok-push w ↦
-          ap (λ (v : Vec (Bor Strip) Global). referents v.items) w.strips-is ∙ referents_more _ _ _ w.in_ok-push.ensures.items ∙ ap (λ (l : List Strip). l ++ p.pair ∷ []) c.loop-pair.invariant
-          ∙ sym (more ∙ ap (λ (b : Bool). strips_so_far S ps i ++ cond b (p.pair ∷ []) []) (sym mark ∙ w.if-dense-pair.true))
+          ap (λ (v : Vec (Bor Strip) Global). referents v.items) w.strips-is
+          ∙ referents_more _ _ _ w.in_ok-push.ensures.items
+          ∙ ap (λ (l : List Strip). l ++ p.pair ∷ []) c.loop-pair.invariant
+          ∙ sym (more ∙ ap (λ (b : Bool). strips_so_far S ps i ++ cond b (p.pair ∷ []) [])
+          (sym mark ∙ w.if-dense-pair.true))
       | else-dense-pair w ↦
           ap (λ (v : Vec (Bor Strip) Global). referents v.items) w.strips-is ∙ c.loop-pair.invariant
-          ∙ sym (more ∙ ap (λ (b : Bool). strips_so_far S ps i ++ cond b (p.pair ∷ []) []) (sym mark ∙ w.if-dense-pair.false) ∙ append-nil (strips_so_far S ps i))
+          ∙ sym (more ∙ ap (λ (b : Bool). strips_so_far S ps i ++ cond b (p.pair ∷ []) [])
+          (sym mark ∙ w.if-dense-pair.false) ∙ append-nil (strips_so_far S ps i))
     ]

@@ -6,4 +6,10 @@ use Rattle.section_slices.proofs.gaps.is_dense.Goals as goal
 
 pub returns-then-sections-gap : goal.returns-then-sections-gap
 returns-then-sections-gap c =
-    sym (not_above c.args.sections.now c.args.gap c.args.pairs.now c.requires.gaps (omega (arith, c.if-sections-gap.true, ap length c.sections.ensures.parts, length-map c.sections.result.now section_parts)))
+    sym (not_above c.args.sections.now c.args.gap c.args.pairs.now c.requires.gaps
+    (omega (
+      arith,
+      c.if-sections-gap.true,
+      ap length c.sections.ensures.parts,
+      length-map c.sections.result.now section_parts,
+    )))

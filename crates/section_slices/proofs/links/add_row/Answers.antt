@@ -28,10 +28,15 @@ loop-j-preserved c =
           let more = ap (λ (v : Vec Link Global). v.items) w.links-is ∙ w.in_ok-push.ensures.items in
           let y = w.link.result in
           let k = w.index-high-j.result in
-          let here : link_parts y ≡ f j = w.link.ensures ∙ ap (link c.args.low.now.name) (sym (get_or-map (λ (x : Contour). x.name) high j k [] c.loop-j-test.true)) in
-          ap (map link_parts) more ∙ map-append link_parts old (y ∷ []) ∙ ap₂ (λ (ls : List LinkParts) (l : LinkParts). ls ++ l ∷ []) c.loop-j.invariant here
-          ∙ append_assoc first before (f j ∷ []) ∙ ap (λ (ls : List LinkParts). first ++ ls) (sym (map_passed f (mark row) j w.if-row-j.true))
+          let here : link_parts y ≡ f j = w.link.ensures
+          ∙ ap (link c.args.low.now.name) (sym
+          (get_or-map (λ (x : Contour). x.name) high j k [] c.loop-j-test.true)) in
+          ap (map link_parts) more ∙ map-append link_parts old (y ∷ [])
+          ∙ ap₂ (λ (ls : List LinkParts) (l : LinkParts). ls ++ l ∷ []) c.loop-j.invariant here
+          ∙ append_assoc first before (f j ∷ [])
+          ∙ ap (λ (ls : List LinkParts). first ++ ls) (sym (map_passed f (mark row) j w.if-row-j.true))
       | else-row-j w ↦
           let same = ap (λ (v : Vec Link Global). v.items) w.links-is in
-          ap (map link_parts) same ∙ c.loop-j.invariant ∙ ap (λ (ls : List LinkParts). first ++ ls) (sym (map_failed f (mark row) j w.if-row-j.false))
+          ap (map link_parts) same ∙ c.loop-j.invariant
+          ∙ ap (λ (ls : List LinkParts). first ++ ls) (sym (map_failed f (mark row) j w.if-row-j.false))
     ]

@@ -7,4 +7,6 @@ use Rattle.section_slices.proofs.links.add_row.Given as goal
 
 abbrev pub invariant-loop-j : goal.invariant-loop-j
 invariant-loop-j l =
-    map link_parts l.links.items ≡ map link_parts l.fn.links.items ++ map (λ j. link l.low.name (get_or (map (λ c. c.name) l.high) j [])) (filter (mark l.row) (range_with_len 0 l.j))
+    map link_parts l.links.items ≡ map link_parts l.fn.links.items
+    ++ map (λ j. link l.low.name (get_or (map (λ c. c.name) l.high) j []))
+    (filter (mark l.row) (range_with_len 0 l.j))

@@ -29,17 +29,23 @@ loop-place-preserved c =
     elim c.if-pairs-place.branch [
       | then-pairs-place+in_ok-add_pair w ↦
           let q = w.index-pairs-place-then-pairs-place.result in
-          let read : pair_parts q ≡ pair_at (map pair_parts ps) i = sym (pair_is ps i q l w.index-pairs-place-then-pairs-place.is) in
+          let read : pair_parts q ≡ pair_at (map pair_parts ps) i =
+          sym (pair_is ps i q l w.index-pairs-place-then-pairs-place.is) in
           ap (λ (v : Vec Link Global). map link_parts v.items) w.links-is ∙ w.in_ok-add_pair.ensures
           ∙ ap₂ (λ (ls : List LinkParts) (x : PairParts). ls ++ pair_links low high x i) c.loop-place.invariant read
           ∙ sym (flat_passed f test i (in_gap ps i g p l c.index-pairs-place.is (same_gap ∙ w.if-pairs-place.true)))
       | else-pairs-place w ↦
-          ap (λ (v : Vec Link Global). map link_parts v.items) w.links-is ∙ c.loop-place.invariant ∙ sym (flat_failed f test i (not_in_gap ps i g p l c.index-pairs-place.is (λ h. w.if-pairs-place.false (sym same_gap ∙ h))))
+          ap (λ (v : Vec Link Global). map link_parts v.items) w.links-is ∙ c.loop-place.invariant
+          ∙ sym (flat_failed f test i (not_in_gap ps i g p l c.index-pairs-place.is
+          (λ h. w.if-pairs-place.false (sym same_gap ∙ h))))
     ]
 
 pub returns : goal.returns
 returns c =
     let ps = c.args.pairs.now in
-    let f : ℕ → List LinkParts = λ k. pair_links (held_layer c.args.low.now) (held_layer c.args.high.now) (pair_at (map pair_parts ps) k) k in
-    let all : c.loop-place.place ≡ length (map pair_parts ps) = omega (arith, c.loop-place-test.false, c.loop-place.auto.place-end, length-map ps pair_parts) in
-    c.loop-place.invariant ∙ ap (λ (n : ℕ). flat_map f (filter (λ k. is_in c.args.gap (pair_at (map pair_parts ps) k)) (range_with_len 0 n))) all
+    let f : ℕ → List LinkParts = λ k. pair_links (held_layer c.args.low.now) (held_layer c.args.high.now)
+    (pair_at (map pair_parts ps) k) k in
+    let all : c.loop-place.place ≡ length (map pair_parts ps) =
+    omega (arith, c.loop-place-test.false, c.loop-place.auto.place-end, length-map ps pair_parts) in
+    c.loop-place.invariant ∙ ap (λ (n : ℕ).
+    flat_map f (filter (λ k. is_in c.args.gap (pair_at (map pair_parts ps) k)) (range_with_len 0 n))) all

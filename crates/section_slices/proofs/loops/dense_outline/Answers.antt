@@ -7,4 +7,6 @@ pub returns : goal.returns
 returns c =
     let x = c.index-solved-place.result in
     let p = c.args.pair.now in
-    outline_is c.args.sections.now p x c.rise-rise.result c.in_ok-spots.spots.items (subst (Solves p.pair) (sym c.index-solved-place.is) (c.requires.solves x)) c.rise-rise.ensures.value c.in_ok-spots.ensures
+    outline_is c.args.sections.now p x c.rise-rise.result c.in_ok-spots.spots.items
+    (subst (Solves p.pair) (sym c.index-solved-place.is) (c.requires.solves x)) c.rise-rise.ensures.value
+    c.in_ok-spots.ensures

@@ -14,7 +14,8 @@ pub bounds-dense-pair : goal.bounds-dense-pair
 bounds-dense-pair c =
     omega (
       arith,
-      gap_there _ c.args.pairs.now c.loop-pair.pair-index c.pair-item.result c.requires.gaps c.loop-pair-test.true c.pair-item.is,
+      gap_there _ c.args.pairs.now c.loop-pair.pair-index c.pair-item.result c.requires.gaps c.loop-pair-test.true
+          c.pair-item.is,
       count_marks c.args.sections.now (map pair_parts c.args.pairs.now) c.args.dense.now c.requires.dense,
     )
 
@@ -24,7 +25,9 @@ dense_outline-requires-clause-dense c =
     let ps = c.args.pairs.now in
     let p = c.pair-item.result in
     let there = gap_there _ ps c.loop-pair.pair-index p c.requires.gaps c.loop-pair-test.true c.pair-item.is in
-    dense_rise S (map pair_parts ps) p.gap (sym (marked S (map pair_parts ps) c.args.dense.now p.gap false c.requires.dense (omega (arith, there))) ∙ c.if-dense-pair.true)
+    dense_rise S (map pair_parts ps) p.gap
+    (sym (marked S (map pair_parts ps) c.args.dense.now p.gap false c.requires.dense (omega (arith, there)))
+    ∙ c.if-dense-pair.true)
 
 pub dense_outline-requires-clause-there : goal.dense_outline-requires-clause-there
 dense_outline-requires-clause-there c =
@@ -32,8 +35,14 @@ dense_outline-requires-clause-there c =
     let ps = c.args.pairs.now in
     let p = c.pair-item.result in
     let there = gap_there _ ps c.loop-pair.pair-index p c.requires.gaps c.loop-pair-test.true c.pair-item.is in
-    let yes = sym (marked S (map pair_parts ps) c.args.dense.now p.gap false c.requires.dense (omega (arith, there))) ∙ c.if-dense-pair.true in
-    omega (arith, c.loop-pair.invariant.next, solution_there S ps c.args.solved.now c.loop-pair.pair-index p c.requires.solved c.loop-pair-test.true c.pair-item.is yes)
+    let yes = sym (marked S (map pair_parts ps) c.args.dense.now p.gap false c.requires.dense (omega (arith, there)))
+    ∙ c.if-dense-pair.true in
+    omega (
+      arith,
+      c.loop-pair.invariant.next,
+      solution_there S ps c.args.solved.now c.loop-pair.pair-index p c.requires.solved c.loop-pair-test.true
+          c.pair-item.is yes,
+    )
 
 pub dense_outline-requires-clause-solves : goal.dense_outline-requires-clause-solves
 dense_outline-requires-clause-solves c x =
@@ -42,8 +51,10 @@ dense_outline-requires-clause-solves c x =
     let p = c.pair-item.result in
     let xs = c.args.solved.now in
     let there = gap_there _ ps c.loop-pair.pair-index p c.requires.gaps c.loop-pair-test.true c.pair-item.is in
-    let yes = sym (marked S (map pair_parts ps) c.args.dense.now p.gap false c.requires.dense (omega (arith, there))) ∙ c.if-dense-pair.true in
-    solution_is S ps xs c.loop-pair.pair-index p x c.requires.solved c.loop-pair-test.true c.pair-item.is yes c.loop-pair.next c.loop-pair.invariant.next
+    let yes = sym (marked S (map pair_parts ps) c.args.dense.now p.gap false c.requires.dense (omega (arith, there)))
+    ∙ c.if-dense-pair.true in
+    solution_is S ps xs c.loop-pair.pair-index p x c.requires.solved c.loop-pair-test.true c.pair-item.is yes
+    c.loop-pair.next c.loop-pair.invariant.next
 
 pub loop-pair-preserved : goal.loop-pair-preserved
 loop-pair-preserved c =
@@ -59,23 +70,39 @@ loop-pair-preserved c =
       | then-dense-pair+in_ok-dense_outline+in_ok-push w ↦ (
           let pushed = ap (λ (v : Vec (Vec Spot Global) Global). v.items) w.outlines-is ∙ w.in_ok-push.ensures.items in
           let yes : is_dense S (map pair_parts ps) p.gap ≡ true = sym mark ∙ w.if-dense-pair.true in
-          let one : length (cond (dense_test S ps (pair_parts p)) (pair_parts p ∷ []) []) ≡ 1 = ap (λ (b : Bool). length (cond b (pair_parts p ∷ []) [])) yes in
+          let one : length (cond (dense_test S ps (pair_parts p)) (pair_parts p ∷ []) []) ≡ 1 =
+          ap (λ (b : Bool). length (cond b (pair_parts p ∷ []) [])) yes in
           record {
-            count = omega (arith, ap length pushed, length-append c.loop-pair.outlines.items (w.in_ok-dense_outline.field-0 ∷ []), inv.count);
+            count = omega (
+              arith,
+              ap length pushed,
+              length-append c.loop-pair.outlines.items (w.in_ok-dense_outline.field-0 ∷ []),
+              inv.count,
+            );
             next = omega (arith, w.next-is, inv.next, more, one);
             few = omega (arith, w.next-is, inv.few);
-            each = so_far_more S ps c.loop-pair.outlines.items c.if-dense-pair.outlines.items w.in_ok-dense_outline.field-0 i p inv.count c.loop-pair-test.true c.pair-item.is pushed (λ e. w.in_ok-dense_outline.ensures) inv.each;
+            each = so_far_more S ps c.loop-pair.outlines.items c.if-dense-pair.outlines.items
+                w.in_ok-dense_outline.field-0 i p inv.count c.loop-pair-test.true c.pair-item.is pushed
+                (λ e. w.in_ok-dense_outline.ensures) inv.each;
           }
           )
       | else-dense-pair+in_ok-push-2 w ↦ (
-          let pushed = ap (λ (v : Vec (Vec Spot Global) Global). v.items) w.outlines-is ∙ w.in_ok-push-2.ensures.items in
+          let pushed = ap (λ (v : Vec (Vec Spot Global) Global). v.items) w.outlines-is
+          ∙ w.in_ok-push-2.ensures.items in
           let no : is_dense S (map pair_parts ps) p.gap ≡ false = sym mark ∙ w.if-dense-pair.false in
-          let none : length (cond (dense_test S ps (pair_parts p)) (pair_parts p ∷ []) []) ≡ 0 = ap (λ (b : Bool). length (cond b (pair_parts p ∷ []) [])) no in
+          let none : length (cond (dense_test S ps (pair_parts p)) (pair_parts p ∷ []) []) ≡ 0 =
+          ap (λ (b : Bool). length (cond b (pair_parts p ∷ []) [])) no in
           record {
-            count = omega (arith, ap length pushed, length-append c.loop-pair.outlines.items (w.new.result ∷ []), inv.count);
+            count = omega (
+              arith,
+              ap length pushed,
+              length-append c.loop-pair.outlines.items (w.new.result ∷ []),
+              inv.count,
+            );
             next = omega (arith, w.next-is, inv.next, more, none);
             few = omega (arith, w.next-is, inv.few);
-            each = so_far_more S ps c.loop-pair.outlines.items c.if-dense-pair.outlines.items w.new.result i p inv.count c.loop-pair-test.true c.pair-item.is pushed (λ e. absurd (true≢false (sym e ∙ no))) inv.each;
+            each = so_far_more S ps c.loop-pair.outlines.items c.if-dense-pair.outlines.items w.new.result i p inv.count
+                c.loop-pair-test.true c.pair-item.is pushed (λ e. absurd (true≢false (sym e ∙ no))) inv.each;
           }
           )
     ]

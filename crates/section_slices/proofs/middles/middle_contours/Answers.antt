@@ -33,19 +33,25 @@ loop-place-preserved c =
           let y = w.in_ok-contour_through.field-0 in
           let v = w.index-outlines-place.result in
           let more = ap (λ (u : Vec Contour Global). u.items) w.contours-is ∙ w.in_ok-push.ensures.items in
-          let spots = w.deref.ensures.value ∙ sym (outline_read outlines i v (omega (arith, l, c.requires.outlines)) w.index-outlines-place.is) in
+          let spots = w.deref.ensures.value ∙ sym
+          (outline_read outlines i v (omega (arith, l, c.requires.outlines)) w.index-outlines-place.is) in
           let here = w.in_ok-contour_through.ensures.parts ∙ ap₂ contour_through w.middle_name-name.ensures spots in
           record {
-            parts = ap (map contour_parts) more ∙ map-append contour_parts old (y ∷ []) ∙ ap₂ (λ (cs : List ContourParts) (k : ContourParts). cs ++ k ∷ []) inv.parts here
-                ∙ sym (map_passed (middle_contour (outlines_of outlines)) test i (in_gap ps i g p l c.index-pairs-place.is (same_gap ∙ w.if-pairs-place.true)));
+            parts = ap (map contour_parts) more ∙ map-append contour_parts old (y ∷ [])
+                ∙ ap₂ (λ (cs : List ContourParts) (k : ContourParts). cs ++ k ∷ []) inv.parts here
+                ∙ sym (map_passed (middle_contour (outlines_of outlines)) test i
+                (in_gap ps i g p l c.index-pairs-place.is (same_gap ∙ w.if-pairs-place.true)));
             level = all_pushed (IsAtHeight _) old new y more inv.level w.in_ok-contour_through.ensures.level;
           }
           )
       | else-pairs-place w ↦ (
           let same = ap (λ (u : Vec Contour Global). u.items) w.contours-is in
           record {
-            parts = ap (map contour_parts) same ∙ inv.parts ∙ sym (map_failed (middle_contour (outlines_of outlines)) test i (not_in_gap ps i g p l c.index-pairs-place.is (λ h. w.if-pairs-place.false (sym same_gap ∙ h))));
-            level = subst (λ (cs : List Contour). All (IsAtHeight (to_z w32 (of_z w32 c.args.z))) cs) (sym same) inv.level;
+            parts = ap (map contour_parts) same ∙ inv.parts
+                ∙ sym (map_failed (middle_contour (outlines_of outlines)) test i
+                (not_in_gap ps i g p l c.index-pairs-place.is (λ h. w.if-pairs-place.false (sym same_gap ∙ h))));
+            level = subst (λ (cs : List Contour). All (IsAtHeight (to_z w32 (of_z w32 c.args.z))) cs) (sym same)
+                inv.level;
           }
           )
     ]

@@ -9,6 +9,8 @@ use Rattle.section_slices.proofs.middles.middle_contours.Given as goal
 
 abbrev pub invariant-loop-place : goal.invariant-loop-place
 invariant-loop-place l = record {
-  parts : map contour_parts l.contours.items ≡ map (middle_contour (outlines_of l.outlines)) (filter (λ k. is_in l.gap (pair_at (map pair_parts l.pairs) k)) (range_with_len 0 l.place));
+  parts : map contour_parts l.contours.items
+      ≡ map (middle_contour (outlines_of l.outlines))
+      (filter (λ k. is_in l.gap (pair_at (map pair_parts l.pairs) k)) (range_with_len 0 l.place));
   level : All (IsAtHeight l.z) l.contours.items;
 }

@@ -9,6 +9,8 @@ use Rattle.section_slices.proofs.middles.with_middles.Given as goal
 
 abbrev pub invariant-loop-gap : goal.invariant-loop-gap
 invariant-loop-gap l = record {
-  parts : map section_parts l.made.items ≡ flat_map (section_and_middle l.sections (map pair_parts l.pairs) (outlines_of l.outlines)) (range_with_len 0 l.gap);
+  parts : map section_parts l.made.items
+      ≡ flat_map (section_and_middle l.sections (map pair_parts l.pairs) (outlines_of l.outlines))
+      (range_with_len 0 l.gap);
   level : All IsLevelSection l.made.items;
 }

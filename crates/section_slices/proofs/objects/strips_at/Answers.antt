@@ -9,9 +9,11 @@ pub returns-in-Ok : goal.returns-in-Ok
 returns-in-Ok c =
     let S = c.args.sections.now in
     let g = c.in-Ok.gap.index in
-    strips_found c.args.z S g (map pair_parts c.args.pairs.now) c.gap_strips.result (subst (λ (z : ℤ). IsGapAt S z g) (to_z-of_z c.ranges.z) c.in-Ok.ensures.gap) c.requires c.gap_strips.ensures
+    strips_found c.args.z S g (map pair_parts c.args.pairs.now) c.gap_strips.result
+    (subst (λ (z : ℤ). IsGapAt S z g) (to_z-of_z c.ranges.z) c.in-Ok.ensures.gap) c.requires c.gap_strips.ensures
 
 pub returns-in-Err : goal.returns-in-Err
 returns-in-Err c =
     let S = c.args.sections.now in
-    subst (AreStripsAt c.args.z S) (sym (ap referents c.new.ensures.items)) (no_gap (λ g at. c.in-Err.ensures.no_gap g (subst (λ (z : ℤ). IsGapAt S z g) (sym (to_z-of_z c.ranges.z)) at)))
+    subst (AreStripsAt c.args.z S) (sym (ap referents c.new.ensures.items))
+    (no_gap (λ g at. c.in-Err.ensures.no_gap g (subst (λ (z : ℤ). IsGapAt S z g) (sym (to_z-of_z c.ranges.z)) at)))

@@ -9,9 +9,11 @@ none = record { x = pos 0; y = pos 0 }
 pub loop-count-preserved : goal.loop-count-preserved
 loop-count-preserved c = record {
   few = omega arith;
-  same = one_less c.args.spots.now c.loop-count.count none c.loop-count-test.true c.loop-count.invariant.few (sym c.eq.ensures ∙ c.if-eq.true) ∙ c.loop-count.invariant.same;
+  same = one_less c.args.spots.now c.loop-count.count none c.loop-count-test.true c.loop-count.invariant.few
+      (sym c.eq.ensures ∙ c.if-eq.true) ∙ c.loop-count.invariant.same;
 }
 
 pub returns-else-eq : goal.returns-else-eq
 returns-else-eq c =
-    sym (all_stay c.args.spots.now c.loop-count.count none c.loop-count-test.true c.loop-count.invariant.few (sym c.eq.ensures ∙ c.if-eq.false)) ∙ c.loop-count.invariant.same
+    sym (all_stay c.args.spots.now c.loop-count.count none c.loop-count-test.true c.loop-count.invariant.few
+    (sym c.eq.ensures ∙ c.if-eq.false)) ∙ c.loop-count.invariant.same

@@ -13,8 +13,11 @@ pub returns-clause-densified : goal.returns-clause-densified
 returns-clause-densified c =
     let S = c.args.sections.now in
     let ps = map pair_parts c.args.pairs.now in
-    is_made S ps (outlines_of c.in_ok-outlines.outlines.items) c.in_ok-parts.parts.items c.in_ok-links.links.items c.requires.pairs c.in_ok-outlines.ensures
-    (c.in_ok-parts.ensures.parts ∙ ap (λ (os : List (Vec Spot Global)). flat_map (section_and_middle S ps (outlines_of os)) (range_with_len 0 (length S.sections))) c.deref.ensures.value) c.in_ok-links.ensures
+    is_made S ps (outlines_of c.in_ok-outlines.outlines.items) c.in_ok-parts.parts.items c.in_ok-links.links.items
+    c.requires.pairs c.in_ok-outlines.ensures
+    (c.in_ok-parts.ensures.parts ∙ ap (λ (os : List (Vec Spot Global)).
+    flat_map (section_and_middle S ps (outlines_of os)) (range_with_len 0 (length S.sections)))
+    c.deref.ensures.value) c.in_ok-links.ensures
 
 pub returns-clause-flat : goal.returns-clause-flat
 returns-clause-flat c = flat_of c.in_ok-parts.parts.items c.in_ok-parts.ensures.level

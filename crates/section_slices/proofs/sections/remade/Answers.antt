@@ -12,11 +12,13 @@ returns-in-Ok-clause-fault c =
     let sections = c.args.sections.items in
     let links = c.args.links.items in
     subst (λ (k : CostParts). IfErr c.tested.result (IsRemakeFault k Links sections links)) c.cost.ensures.parts
-    (retold c.in-Ok.made (cost_parts c.cost.result) Links sections links c.tested.result c.in-Ok.ensures.made c.in-Ok.ensures.accepted.0 c.tested.ensures.fault)
+    (retold c.in-Ok.made (cost_parts c.cost.result) Links sections links c.tested.result c.in-Ok.ensures.made
+    c.in-Ok.ensures.accepted.0 c.tested.ensures.fault)
 
 pub returns-in-Err-clause-fault : goal.returns-in-Err-clause-fault
 returns-in-Err-clause-fault c =
     let sections = c.args.sections.items in
     let links = c.args.links.items in
     subst (IsRemakeFault c.args.old.now.cost Links sections links) (sym c.middle_fault.ensures)
-    (subst (λ (k : CostParts). IsRemakeFault k Links sections links (middle_fault c.in-Err.fault)) c.cost.ensures.parts (of_make (cost_parts c.cost.result) Links sections links c.in-Err.fault c.in-Err.ensures.fault))
+    (subst (λ (k : CostParts). IsRemakeFault k Links sections links (middle_fault c.in-Err.fault)) c.cost.ensures.parts
+    (of_make (cost_parts c.cost.result) Links sections links c.in-Err.fault c.in-Err.ensures.fault))

@@ -15,58 +15,75 @@ pub returns-in_err-gap-clause-fault : goal.returns-in_err-gap-clause-fault
 returns-in_err-gap-clause-fault g c =
     let S = c.args.sections.now in
     let fault = c.in_err-gap.field-0.0 in
-    err_is (OrNoMemory (IsHeightFault S c.args.z)) c.from_residual.result fault c.from_residual.ensures.1 (inr (subst (λ (z : ℤ). IsHeightFault S z fault) (to_z-of_z c.ranges.z) c.in_err-gap.ensures.fault))
+    err_is (OrNoMemory (IsHeightFault S c.args.z)) c.from_residual.result fault c.from_residual.ensures.1
+    (inr (subst (λ (z : ℤ). IsHeightFault S z fault) (to_z-of_z c.ranges.z) c.in_err-gap.ensures.fault))
 
 pub returns-in_err-gap-clause-memory : goal.returns-in_err-gap-clause-memory
 returns-in_err-gap-clause-memory g c =
     let S = c.args.sections.now in
     let fault = c.in_err-gap.field-0.0 in
-    err_is (λ (e : Fault). e ≡ NoMemory → (f : Fault) → IsHeightFault S c.args.z f → ⊥) c.from_residual.result fault c.from_residual.ensures.1 (λ e f h. not_memory S _ fault c.in_err-gap.ensures.fault e)
+    err_is (λ (e : Fault). e ≡ NoMemory → (f : Fault) → IsHeightFault S c.args.z f → ⊥) c.from_residual.result fault
+    c.from_residual.ensures.1 (λ e f h. not_memory S _ fault c.in_err-gap.ensures.fault e)
 
 pub returns-in_err-strips-clause-fault : goal.returns-in_err-strips-clause-fault
-returns-in_err-strips-clause-fault g c = memory (IsHeightFault c.args.sections.now c.args.z) c.from_residual-in_err-strips.result c.from_residual-in_err-strips.ensures.1
+returns-in_err-strips-clause-fault g c =
+    memory (IsHeightFault c.args.sections.now c.args.z) c.from_residual-in_err-strips.result
+    c.from_residual-in_err-strips.ensures.1
 
 pub returns-in_err-solved-clause-fault : goal.returns-in_err-solved-clause-fault
-returns-in_err-solved-clause-fault g c = memory (IsHeightFault c.args.sections.now c.args.z) c.from_residual-in_err-solved.result c.from_residual-in_err-solved.ensures.1
+returns-in_err-solved-clause-fault g c =
+    memory (IsHeightFault c.args.sections.now c.args.z) c.from_residual-in_err-solved.result
+    c.from_residual-in_err-solved.ensures.1
 
 pub returns-in_err-loops-clause-fault : goal.returns-in_err-loops-clause-fault
-returns-in_err-loops-clause-fault g c = memory (IsHeightFault c.args.sections.now c.args.z) c.from_residual-in_err-loops.result c.from_residual-in_err-loops.ensures.1
+returns-in_err-loops-clause-fault g c =
+    memory (IsHeightFault c.args.sections.now c.args.z) c.from_residual-in_err-loops.result
+    c.from_residual-in_err-loops.ensures.1
 
 pub returns-in_err-strips-clause-memory : goal.returns-in_err-strips-clause-memory
 returns-in_err-strips-clause-memory g c =
     let S = c.args.sections.now in
-    late ((f : Fault) → IsHeightFault S c.args.z f → ⊥) c.from_residual-in_err-strips.result (subst (λ (z : ℤ). (f : Fault) → IsHeightFault S z f → ⊥) (to_z-of_z c.ranges.z) c.in_ok-gap.ensures.only)
+    late ((f : Fault) → IsHeightFault S c.args.z f → ⊥) c.from_residual-in_err-strips.result
+    (subst (λ (z : ℤ). (f : Fault) → IsHeightFault S z f → ⊥) (to_z-of_z c.ranges.z) c.in_ok-gap.ensures.only)
 
 pub returns-in_err-solved-clause-memory : goal.returns-in_err-solved-clause-memory
 returns-in_err-solved-clause-memory g c =
     let S = c.args.sections.now in
-    late ((f : Fault) → IsHeightFault S c.args.z f → ⊥) c.from_residual-in_err-solved.result (subst (λ (z : ℤ). (f : Fault) → IsHeightFault S z f → ⊥) (to_z-of_z c.ranges.z) c.in_ok-gap.ensures.only)
+    late ((f : Fault) → IsHeightFault S c.args.z f → ⊥) c.from_residual-in_err-solved.result
+    (subst (λ (z : ℤ). (f : Fault) → IsHeightFault S z f → ⊥) (to_z-of_z c.ranges.z) c.in_ok-gap.ensures.only)
 
 pub returns-in_err-loops-clause-memory : goal.returns-in_err-loops-clause-memory
 returns-in_err-loops-clause-memory g c =
     let S = c.args.sections.now in
-    late ((f : Fault) → IsHeightFault S c.args.z f → ⊥) c.from_residual-in_err-loops.result (subst (λ (z : ℤ). (f : Fault) → IsHeightFault S z f → ⊥) (to_z-of_z c.ranges.z) c.in_ok-gap.ensures.only)
+    late ((f : Fault) → IsHeightFault S c.args.z f → ⊥) c.from_residual-in_err-loops.result
+    (subst (λ (z : ℤ). (f : Fault) → IsHeightFault S z f → ⊥) (to_z-of_z c.ranges.z) c.in_ok-gap.ensures.only)
 
 pub returns-in_err-solved-clause-not_more : goal.returns-in_err-solved-clause-not_more
 returns-in_err-solved-clause-not_more g c k at =
     let gap = c.in_ok-gap.gap.index in
     let pairs = map pair_parts c.args.pairs.now in
-    let same : referents c.deref.result.now ≡ strips_in (pairs_in_gap gap pairs) = ap referents c.deref.ensures.value ∙ c.in_ok-strips.ensures in
-    let one : k ≡ gap = c.in_ok-gap.ensures.one k (subst (λ (z : ℤ). IsGapAt c.args.sections.now z k) (sym (to_z-of_z c.ranges.z)) at) in
+    let same : referents c.deref.result.now ≡ strips_in (pairs_in_gap gap pairs) = ap referents c.deref.ensures.value
+    ∙ c.in_ok-strips.ensures in
+    let one : k ≡ gap = c.in_ok-gap.ensures.one k
+    (subst (λ (z : ℤ). IsGapAt c.args.sections.now z k) (sym (to_z-of_z c.ranges.z)) at) in
     omega (arith, handed_over k gap pairs c.deref.result.now one same, c.solve_each.ensures.not_more)
 
 pub returns-in_err-loops-clause-not_more : goal.returns-in_err-loops-clause-not_more
 returns-in_err-loops-clause-not_more g c k at =
     let gap = c.in_ok-gap.gap.index in
     let pairs = map pair_parts c.args.pairs.now in
-    let same : referents c.deref.result.now ≡ strips_in (pairs_in_gap gap pairs) = ap referents c.deref.ensures.value ∙ c.in_ok-strips.ensures in
-    let one : k ≡ gap = c.in_ok-gap.ensures.one k (subst (λ (z : ℤ). IsGapAt c.args.sections.now z k) (sym (to_z-of_z c.ranges.z)) at) in
+    let same : referents c.deref.result.now ≡ strips_in (pairs_in_gap gap pairs) = ap referents c.deref.ensures.value
+    ∙ c.in_ok-strips.ensures in
+    let one : k ≡ gap = c.in_ok-gap.ensures.one k
+    (subst (λ (z : ℤ). IsGapAt c.args.sections.now z k) (sym (to_z-of_z c.ranges.z)) at) in
     omega (arith, handed_over k gap pairs c.deref.result.now one same, c.solve_each.ensures.not_more)
 
 pub returns-clause-not_more : goal.returns-clause-not_more
 returns-clause-not_more g c k at =
     let gap = c.in_ok-gap.gap.index in
     let pairs = map pair_parts c.args.pairs.now in
-    let same : referents c.deref.result.now ≡ strips_in (pairs_in_gap gap pairs) = ap referents c.deref.ensures.value ∙ c.in_ok-strips.ensures in
-    let one : k ≡ gap = c.in_ok-gap.ensures.one k (subst (λ (z : ℤ). IsGapAt c.args.sections.now z k) (sym (to_z-of_z c.ranges.z)) at) in
+    let same : referents c.deref.result.now ≡ strips_in (pairs_in_gap gap pairs) = ap referents c.deref.ensures.value
+    ∙ c.in_ok-strips.ensures in
+    let one : k ≡ gap = c.in_ok-gap.ensures.one k
+    (subst (λ (z : ℤ). IsGapAt c.args.sections.now z k) (sym (to_z-of_z c.ranges.z)) at) in
     omega (arith, handed_over k gap pairs c.deref.result.now one same, c.solve_each.ensures.not_more)

@@ -24,12 +24,15 @@ no_tail : (tail more : List Kept) (line : Kept) → [] ≡ tail → tail ≡ lin
 no_tail tail more line e f = cc (e, f)
 
 pub returns-in-Err-clause-printed : goal.returns-in-Err-clause-printed
-returns-in-Err-clause-printed c S a e = memory_alone c.args.bytes.now S c.in-Err.fault (c.in-Err.ensures.exact (front_is S []) (reads c.args.bytes.now S a e))
+returns-in-Err-clause-printed c S a e =
+    memory_alone c.args.bytes.now S c.in-Err.fault
+    (c.in-Err.ensures.exact (front_is S []) (reads c.args.bytes.now S a e))
 
 pub returns-in-Some-clause-printed : goal.returns-in-Some-clause-printed
 returns-in-Some-clause-printed c S a e =
     let h = c.in-Ok.ensures.exact (front_is S []) (reads c.args.bytes.now S a e) in
-    absurd (no_tail (kept_from (c.in-Ok.front.lines + 1) (lines (drop c.in-Ok.front.used c.args.bytes.now))) _ _ h.2 c.in-Some.ensures.found.kept)
+    absurd (no_tail (kept_from (c.in-Ok.front.lines + 1) (lines (drop c.in-Ok.front.used c.args.bytes.now))) _ _ h.2
+    c.in-Some.ensures.found.kept)
 
 pub returns-in-None-clause-printed : goal.returns-in-None-clause-printed
 returns-in-None-clause-printed c S a e = (c.in-Ok.ensures.exact (front_is S []) (reads c.args.bytes.now S a e)).0

@@ -16,16 +16,20 @@ use Rattle.section_text.proofs.FrontLemmas.{parses_objects, parses_objects_fault
 use Rattle.section_text.proofs.front.parse_objects.Goals as goal
 
 pub returns-clause-found : goal.returns-clause-found
-returns-clause-found c = parses_objects c.args.bytes.now (read_file Two at_version (kept_lines c.args.bytes.now)) c.read_front.result (file_holds Two (kept_lines c.args.bytes.now)) c.read_front.ensures.parses
+returns-clause-found c = parses_objects c.args.bytes.now (read_file Two at_version (kept_lines c.args.bytes.now))
+    c.read_front.result (file_holds Two (kept_lines c.args.bytes.now)) c.read_front.ensures.parses
 
 pub returns-clause-fault : goal.returns-clause-fault
-returns-clause-fault c = parses_objects_fault c.args.bytes.now (read_file Two at_version (kept_lines c.args.bytes.now)) c.read_front.result (file_holds Two (kept_lines c.args.bytes.now)) c.read_front.ensures.parses
+returns-clause-fault c = parses_objects_fault c.args.bytes.now (read_file Two at_version (kept_lines c.args.bytes.now))
+    c.read_front.result (file_holds Two (kept_lines c.args.bytes.now)) c.read_front.ensures.parses
 
 pub returns-clause-exact : goal.returns-clause-exact
 returns-clause-exact c answer holds =
-    subst (λ (a : AnswerOf FileParts). Parses c.args.bytes.now a (objects_given c.read_front.result)) (file_only Two (kept_lines c.args.bytes.now) answer holds) c.read_front.ensures.parses
+    subst (λ (a : AnswerOf FileParts). Parses c.args.bytes.now a (objects_given c.read_front.result))
+    (file_only Two (kept_lines c.args.bytes.now) answer holds) c.read_front.ensures.parses
 
-gives : (text : List ℕ) (F : FileParts) (r : Result ObjectsFront Fault) → Parses text (front_is F []) (objects_given r) → IsObjectsFrontGiven F r
+gives : (text : List ℕ) (F : FileParts) (r : Result ObjectsFront Fault) → Parses text (front_is F []) (objects_given r)
+    → IsObjectsFrontGiven F r
 gives text F (Ok f) h = h.0
 gives text F (Err NoMemory) h = refl
 gives text F (Err fault) h = absurd h

@@ -25,14 +25,18 @@ returns-in_err-take_line-clause-parses c =
     let line : List ℕ = slice_range bytes c.in-Some.span.first c.in-Some.span.end in
     let more : List (List ℕ) = lines (drop c.in-Some.span.next bytes) in
     let kept : is_kept (words line) ≡ true = sym c.is_kept.ensures ∙ c.if-is_kept.true in
-    let on = line_read c.args.latest st n (lines (drop c.loop-span.at bytes)) line more (read_file c.args.latest at_version (kept_lines bytes)) c.in-Some.ensures.found.lines kept c.loop-span.invariant.same in
+    let on = line_read c.args.latest st n (lines (drop c.loop-span.at bytes)) line more
+    (read_file c.args.latest at_version (kept_lines bytes)) c.in-Some.ensures.found.lines kept
+    c.loop-span.invariant.same in
     let tail : List Kept = kept_from (n + 1) more in
     let taken = c.in_err-take_line.ensures.takes c.loop-span.invariant.tallied in
     let exit = err_from_is_err_and c.from_residual.result c.from_residual.ensures.1 in
     let end : c.from_residual.result ≡ Err c.in_err-take_line.field-0.0 = exit.1 ∙ ap (λ (e : Fault). Err e) exit.2 in
-    subst (λ (r : Result ObjectsFront Fault). Parses bytes (read_file c.args.latest at_version (kept_lines bytes)) (objects_given r)) (sym end)
+    subst (λ (r : Result ObjectsFront Fault).
+    Parses bytes (read_file c.args.latest at_version (kept_lines bytes)) (objects_given r)) (sym end)
     (subst (λ (a : AnswerOf FileParts). Parses bytes a (objects_given (Err c.in_err-take_line.field-0.0))) on
-    (taken_err bytes n tail (λ next. read_file c.args.latest next tail) (judge c.args.latest st (words line)) c.in_err-take_line.field-0.0 c.take_line.new.tally taken))
+    (taken_err bytes n tail (λ next. read_file c.args.latest next tail) (judge c.args.latest st (words line))
+    c.in_err-take_line.field-0.0 c.take_line.new.tally taken))
 
 pub returns-in_err-take_line-clause-memory : goal.returns-in_err-take_line-clause-memory
 returns-in_err-take_line-clause-memory c =
@@ -43,11 +47,13 @@ returns-in_err-take_line-clause-memory c =
     let more : List (List ℕ) = lines (drop c.in-Some.span.next bytes) in
     let kept : is_kept (words line) ≡ true = sym c.is_kept.ensures ∙ c.if-is_kept.true in
     let tail : List Kept = kept_from (n + 1) more in
-    let passed = kept_next c.args.latest (kept_lines bytes) n line (lines (drop c.loop-span.at bytes)) more st c.in-Some.ensures.found.lines kept c.loop-span.invariant.passed in
+    let passed = kept_next c.args.latest (kept_lines bytes) n line (lines (drop c.loop-span.at bytes)) more st
+    c.in-Some.ensures.found.lines kept c.loop-span.invariant.passed in
     let exit = err_from_is_err_and c.from_residual.result c.from_residual.ensures.1 in
     let end : c.from_residual.result ≡ Err c.in_err-take_line.field-0.0 = exit.1 ∙ ap (λ (e : Fault). Err e) exit.2 in
     subst (λ (r : Result ObjectsFront Fault). IfErr r (IsReadMemory c.args.latest bytes)) (sym end)
-    (line_memory c.args.latest bytes tail (n, words line) st c.in_err-take_line.field-0.0 c.take_line.new.tally passed (c.in_err-take_line.ensures.takes c.loop-span.invariant.tallied) c.in_err-take_line.ensures.memory)
+    (line_memory c.args.latest bytes tail (n, words line) st c.in_err-take_line.field-0.0 c.take_line.new.tally passed
+    (c.in_err-take_line.ensures.takes c.loop-span.invariant.tallied) c.in_err-take_line.ensures.memory)
 
 pub loop-span-preserved-else-is_ended : goal.loop-span-preserved-else-is_ended
 loop-span-preserved-else-is_ended c =
@@ -57,16 +63,23 @@ loop-span-preserved-else-is_ended c =
     let line : List ℕ = slice_range bytes c.in-Some.span.first c.in-Some.span.end in
     let more : List (List ℕ) = lines (drop c.in-Some.span.next bytes) in
     let kept : is_kept (words line) ≡ true = sym c.is_kept.ensures ∙ c.if-is_kept.true in
-    let on = line_read c.args.latest st n (lines (drop c.loop-span.at bytes)) line more (read_file c.args.latest at_version (kept_lines bytes)) c.in-Some.ensures.found.lines kept c.loop-span.invariant.same in
+    let on = line_read c.args.latest st n (lines (drop c.loop-span.at bytes)) line more
+    (read_file c.args.latest at_version (kept_lines bytes)) c.in-Some.ensures.found.lines kept
+    c.loop-span.invariant.same in
     let tail : List Kept = kept_from (n + 1) more in
-    let taken = taken_ok n (judge c.args.latest st (words line)) c.take_line.new.state c.take_line.new.tally (c.in_ok-take_line.ensures.takes c.loop-span.invariant.tallied) in
+    let taken = taken_ok n (judge c.args.latest st (words line)) c.take_line.new.state c.take_line.new.tally
+    (c.in_ok-take_line.ensures.takes c.loop-span.invariant.tallied) in
     let goes = ap (λ (r : Result State Breach). goes_on r n tail (λ next. read_file c.args.latest next tail)) taken.0 in
-    let open' = open_read c.take_line.new.state n tail (λ next. read_file c.args.latest next tail) (sym c.is_ended.ensures ∙ c.if-is_ended.false) in
+    let open' = open_read c.take_line.new.state n tail (λ next. read_file c.args.latest next tail)
+    (sym c.is_ended.ensures ∙ c.if-is_ended.false) in
     record {
       within = c.in-Some.ensures.found.takes_bytes.1;
       counted = omega (arith, c.loop-span.invariant.counted, c.in-Some.ensures.found.takes_bytes.0);
-      behind = after_more c.loop-span.count c.loop-span.at c.in-Some.span.next bytes c.loop-span.invariant.behind c.in-Some.ensures.found.rest;
-      passed = pass_one c.args.latest (kept_lines bytes) tail (n, words line) st (state_of c.take_line.new.state) taken.0 (kept_next c.args.latest (kept_lines bytes) n line (lines (drop c.loop-span.at bytes)) more st c.in-Some.ensures.found.lines kept c.loop-span.invariant.passed);
+      behind = after_more c.loop-span.count c.loop-span.at c.in-Some.span.next bytes c.loop-span.invariant.behind
+          c.in-Some.ensures.found.rest;
+      passed = pass_one c.args.latest (kept_lines bytes) tail (n, words line) st (state_of c.take_line.new.state)
+          taken.0 (kept_next c.args.latest (kept_lines bytes) n line (lines (drop c.loop-span.at bytes)) more st
+          c.in-Some.ensures.found.lines kept c.loop-span.invariant.passed);
       flat = c.in_ok-take_line.ensures.flat c.loop-span.invariant.flat;
       tallied = taken.1;
       same = sym open' ∙ sym goes ∙ on;
@@ -80,13 +93,21 @@ finished_objects-requires-clause-is_file c =
     let line : List ℕ = slice_range bytes c.in-Some.span.first c.in-Some.span.end in
     let more : List (List ℕ) = lines (drop c.in-Some.span.next bytes) in
     let kept : is_kept (words line) ≡ true = sym c.is_kept.ensures ∙ c.if-is_kept.true in
-    let on = line_read c.args.latest st n (lines (drop c.loop-span.at bytes)) line more (read_file c.args.latest at_version (kept_lines bytes)) c.in-Some.ensures.found.lines kept c.loop-span.invariant.same in
+    let on = line_read c.args.latest st n (lines (drop c.loop-span.at bytes)) line more
+    (read_file c.args.latest at_version (kept_lines bytes)) c.in-Some.ensures.found.lines kept
+    c.loop-span.invariant.same in
     let tail : List Kept = kept_from (n + 1) more in
-    let taken = taken_ok n (judge c.args.latest st (words line)) c.take_line.new.state c.take_line.new.tally (c.in_ok-take_line.ensures.takes c.loop-span.invariant.tallied) in
+    let taken = taken_ok n (judge c.args.latest st (words line)) c.take_line.new.state c.take_line.new.tally
+    (c.in_ok-take_line.ensures.takes c.loop-span.invariant.tallied) in
     let S : FileParts = held_file c.unwrap-version.result.0 c.unwrap-version.result.1 c.unwrap-version.result.2.items in
-    let at-end : judge c.args.latest st (words line) ≡ Ok (ended S) = taken.0 ∙ ap (λ s. Ok (state_of s)) (ended_is c.take_line.new.state c.ended_parts.result c.unwrap-version.result c.ended_parts.ensures c.unwrap-version.ensures) in
-    let here = sym (ap (λ (r : Result State Breach). goes_on r n tail (λ next. read_file c.args.latest next tail)) at-end) ∙ on in
-    let whole : HasFile c.args.latest (kept_lines bytes) S tail = ended_front c.args.latest (kept_lines bytes) (is_filled S) S tail (subst (HoldsFile c.args.latest (kept_lines bytes)) (sym here) (file_holds c.args.latest (kept_lines bytes))) in
+    let at-end : judge c.args.latest st (words line) ≡ Ok (ended S) = taken.0
+    ∙ ap (λ s. Ok (state_of s)) (ended_is c.take_line.new.state c.ended_parts.result c.unwrap-version.result
+    c.ended_parts.ensures c.unwrap-version.ensures) in
+    let here = sym (ap (λ (r : Result State Breach). goes_on r n tail (λ next. read_file c.args.latest next tail))
+    at-end) ∙ on in
+    let whole : HasFile c.args.latest (kept_lines bytes) S tail =
+    ended_front c.args.latest (kept_lines bytes) (is_filled S) S tail
+    (subst (HoldsFile c.args.latest (kept_lines bytes)) (sym here) (file_holds c.args.latest (kept_lines bytes))) in
     whole.is_file
 
 pub finished_objects-requires-clause-lawful : goal.finished_objects-requires-clause-lawful
@@ -97,13 +118,21 @@ finished_objects-requires-clause-lawful c =
     let line : List ℕ = slice_range bytes c.in-Some.span.first c.in-Some.span.end in
     let more : List (List ℕ) = lines (drop c.in-Some.span.next bytes) in
     let kept : is_kept (words line) ≡ true = sym c.is_kept.ensures ∙ c.if-is_kept.true in
-    let on = line_read c.args.latest st n (lines (drop c.loop-span.at bytes)) line more (read_file c.args.latest at_version (kept_lines bytes)) c.in-Some.ensures.found.lines kept c.loop-span.invariant.same in
+    let on = line_read c.args.latest st n (lines (drop c.loop-span.at bytes)) line more
+    (read_file c.args.latest at_version (kept_lines bytes)) c.in-Some.ensures.found.lines kept
+    c.loop-span.invariant.same in
     let tail : List Kept = kept_from (n + 1) more in
-    let taken = taken_ok n (judge c.args.latest st (words line)) c.take_line.new.state c.take_line.new.tally (c.in_ok-take_line.ensures.takes c.loop-span.invariant.tallied) in
+    let taken = taken_ok n (judge c.args.latest st (words line)) c.take_line.new.state c.take_line.new.tally
+    (c.in_ok-take_line.ensures.takes c.loop-span.invariant.tallied) in
     let S : FileParts = held_file c.unwrap-version.result.0 c.unwrap-version.result.1 c.unwrap-version.result.2.items in
-    let at-end : judge c.args.latest st (words line) ≡ Ok (ended S) = taken.0 ∙ ap (λ s. Ok (state_of s)) (ended_is c.take_line.new.state c.ended_parts.result c.unwrap-version.result c.ended_parts.ensures c.unwrap-version.ensures) in
-    let here = sym (ap (λ (r : Result State Breach). goes_on r n tail (λ next. read_file c.args.latest next tail)) at-end) ∙ on in
-    let whole : HasFile c.args.latest (kept_lines bytes) S tail = ended_front c.args.latest (kept_lines bytes) (is_filled S) S tail (subst (HoldsFile c.args.latest (kept_lines bytes)) (sym here) (file_holds c.args.latest (kept_lines bytes))) in
+    let at-end : judge c.args.latest st (words line) ≡ Ok (ended S) = taken.0
+    ∙ ap (λ s. Ok (state_of s)) (ended_is c.take_line.new.state c.ended_parts.result c.unwrap-version.result
+    c.ended_parts.ensures c.unwrap-version.ensures) in
+    let here = sym (ap (λ (r : Result State Breach). goes_on r n tail (λ next. read_file c.args.latest next tail))
+    at-end) ∙ on in
+    let whole : HasFile c.args.latest (kept_lines bytes) S tail =
+    ended_front c.args.latest (kept_lines bytes) (is_filled S) S tail
+    (subst (HoldsFile c.args.latest (kept_lines bytes)) (sym here) (file_holds c.args.latest (kept_lines bytes))) in
     whole.lawful
 
 pub returns-in_err-objects-clause-parses : goal.returns-in_err-objects-clause-parses
@@ -114,15 +143,23 @@ returns-in_err-objects-clause-parses c =
     let line : List ℕ = slice_range bytes c.in-Some.span.first c.in-Some.span.end in
     let more : List (List ℕ) = lines (drop c.in-Some.span.next bytes) in
     let kept : is_kept (words line) ≡ true = sym c.is_kept.ensures ∙ c.if-is_kept.true in
-    let on = line_read c.args.latest st n (lines (drop c.loop-span.at bytes)) line more (read_file c.args.latest at_version (kept_lines bytes)) c.in-Some.ensures.found.lines kept c.loop-span.invariant.same in
+    let on = line_read c.args.latest st n (lines (drop c.loop-span.at bytes)) line more
+    (read_file c.args.latest at_version (kept_lines bytes)) c.in-Some.ensures.found.lines kept
+    c.loop-span.invariant.same in
     let tail : List Kept = kept_from (n + 1) more in
-    let taken = taken_ok n (judge c.args.latest st (words line)) c.take_line.new.state c.take_line.new.tally (c.in_ok-take_line.ensures.takes c.loop-span.invariant.tallied) in
+    let taken = taken_ok n (judge c.args.latest st (words line)) c.take_line.new.state c.take_line.new.tally
+    (c.in_ok-take_line.ensures.takes c.loop-span.invariant.tallied) in
     let S : FileParts = held_file c.unwrap-version.result.0 c.unwrap-version.result.1 c.unwrap-version.result.2.items in
-    let at-end : judge c.args.latest st (words line) ≡ Ok (ended S) = taken.0 ∙ ap (λ s. Ok (state_of s)) (ended_is c.take_line.new.state c.ended_parts.result c.unwrap-version.result c.ended_parts.ensures c.unwrap-version.ensures) in
-    let here = sym (ap (λ (r : Result State Breach). goes_on r n tail (λ next. read_file c.args.latest next tail)) at-end) ∙ on in
+    let at-end : judge c.args.latest st (words line) ≡ Ok (ended S) = taken.0
+    ∙ ap (λ s. Ok (state_of s)) (ended_is c.take_line.new.state c.ended_parts.result c.unwrap-version.result
+    c.ended_parts.ensures c.unwrap-version.ensures) in
+    let here = sym (ap (λ (r : Result State Breach). goes_on r n tail (λ next. read_file c.args.latest next tail))
+    at-end) ∙ on in
     let exit = err_from_is_err_and c.from_residual-in_err-objects.result c.from_residual-in_err-objects.ensures.1 in
-    let end : c.from_residual-in_err-objects.result ≡ Err c.in_err-objects.field-0.0 = exit.1 ∙ ap (λ (e : Fault). Err e) exit.2 in
-    subst (λ (r : Result ObjectsFront Fault). Parses bytes (read_file c.args.latest at_version (kept_lines bytes)) (objects_given r)) (sym end)
+    let end : c.from_residual-in_err-objects.result ≡ Err c.in_err-objects.field-0.0 = exit.1
+    ∙ ap (λ (e : Fault). Err e) exit.2 in
+    subst (λ (r : Result ObjectsFront Fault).
+    Parses bytes (read_file c.args.latest at_version (kept_lines bytes)) (objects_given r)) (sym end)
     (subst (λ (a : AnswerOf FileParts). Parses bytes a (objects_given (Err c.in_err-objects.field-0.0))) here
     (finished_err bytes S tail c.in_err-objects.field-0.0 c.in_err-objects.ensures))
 
@@ -135,14 +172,20 @@ returns-in_err-objects-clause-memory c =
     let more : List (List ℕ) = lines (drop c.in-Some.span.next bytes) in
     let kept : is_kept (words line) ≡ true = sym c.is_kept.ensures ∙ c.if-is_kept.true in
     let tail : List Kept = kept_from (n + 1) more in
-    let passed = kept_next c.args.latest (kept_lines bytes) n line (lines (drop c.loop-span.at bytes)) more st c.in-Some.ensures.found.lines kept c.loop-span.invariant.passed in
-    let taken = taken_ok n (judge c.args.latest st (words line)) c.take_line.new.state c.take_line.new.tally (c.in_ok-take_line.ensures.takes c.loop-span.invariant.tallied) in
+    let passed = kept_next c.args.latest (kept_lines bytes) n line (lines (drop c.loop-span.at bytes)) more st
+    c.in-Some.ensures.found.lines kept c.loop-span.invariant.passed in
+    let taken = taken_ok n (judge c.args.latest st (words line)) c.take_line.new.state c.take_line.new.tally
+    (c.in_ok-take_line.ensures.takes c.loop-span.invariant.tallied) in
     let S : FileParts = held_file c.unwrap-version.result.0 c.unwrap-version.result.1 c.unwrap-version.result.2.items in
-    let at-end : judge c.args.latest st (words line) ≡ Ok (ended S) = taken.0 ∙ ap (λ s. Ok (state_of s)) (ended_is c.take_line.new.state c.ended_parts.result c.unwrap-version.result c.ended_parts.ensures c.unwrap-version.ensures) in
+    let at-end : judge c.args.latest st (words line) ≡ Ok (ended S) = taken.0
+    ∙ ap (λ s. Ok (state_of s)) (ended_is c.take_line.new.state c.ended_parts.result c.unwrap-version.result
+    c.ended_parts.ensures c.unwrap-version.ensures) in
     let exit = err_from_is_err_and c.from_residual-in_err-objects.result c.from_residual-in_err-objects.ensures.1 in
-    let end : c.from_residual-in_err-objects.result ≡ Err c.in_err-objects.field-0.0 = exit.1 ∙ ap (λ (e : Fault). Err e) exit.2 in
+    let end : c.from_residual-in_err-objects.result ≡ Err c.in_err-objects.field-0.0 = exit.1
+    ∙ ap (λ (e : Fault). Err e) exit.2 in
     subst (λ (r : Result ObjectsFront Fault). IfErr r (IsReadMemory c.args.latest bytes)) (sym end)
-    (end_memory c.args.latest bytes tail S c.in_err-objects.field-0.0 (pass_one c.args.latest (kept_lines bytes) tail (n, words line) st (ended S) at-end passed))
+    (end_memory c.args.latest bytes tail S c.in_err-objects.field-0.0
+    (pass_one c.args.latest (kept_lines bytes) tail (n, words line) st (ended S) at-end passed))
 
 pub returns-then-is_ended-clause-parses : goal.returns-then-is_ended-clause-parses
 returns-then-is_ended-clause-parses c =
@@ -152,14 +195,24 @@ returns-then-is_ended-clause-parses c =
     let line : List ℕ = slice_range bytes c.in-Some.span.first c.in-Some.span.end in
     let more : List (List ℕ) = lines (drop c.in-Some.span.next bytes) in
     let kept : is_kept (words line) ≡ true = sym c.is_kept.ensures ∙ c.if-is_kept.true in
-    let on = line_read c.args.latest st n (lines (drop c.loop-span.at bytes)) line more (read_file c.args.latest at_version (kept_lines bytes)) c.in-Some.ensures.found.lines kept c.loop-span.invariant.same in
+    let on = line_read c.args.latest st n (lines (drop c.loop-span.at bytes)) line more
+    (read_file c.args.latest at_version (kept_lines bytes)) c.in-Some.ensures.found.lines kept
+    c.loop-span.invariant.same in
     let tail : List Kept = kept_from (n + 1) more in
-    let taken = taken_ok n (judge c.args.latest st (words line)) c.take_line.new.state c.take_line.new.tally (c.in_ok-take_line.ensures.takes c.loop-span.invariant.tallied) in
+    let taken = taken_ok n (judge c.args.latest st (words line)) c.take_line.new.state c.take_line.new.tally
+    (c.in_ok-take_line.ensures.takes c.loop-span.invariant.tallied) in
     let S : FileParts = held_file c.unwrap-version.result.0 c.unwrap-version.result.1 c.unwrap-version.result.2.items in
-    let at-end : judge c.args.latest st (words line) ≡ Ok (ended S) = taken.0 ∙ ap (λ s. Ok (state_of s)) (ended_is c.take_line.new.state c.ended_parts.result c.unwrap-version.result c.ended_parts.ensures c.unwrap-version.ensures) in
-    let here = sym (ap (λ (r : Result State Breach). goes_on r n tail (λ next. read_file c.args.latest next tail)) at-end) ∙ on in
+    let at-end : judge c.args.latest st (words line) ≡ Ok (ended S) = taken.0
+    ∙ ap (λ s. Ok (state_of s)) (ended_is c.take_line.new.state c.ended_parts.result c.unwrap-version.result
+    c.ended_parts.ensures c.unwrap-version.ensures) in
+    let here = sym (ap (λ (r : Result State Breach). goes_on r n tail (λ next. read_file c.args.latest next tail))
+    at-end) ∙ on in
     let front : ObjectsFront = record { objects = c.in_ok-objects.objects; used = c.in-Some.span.next; lines = n } in
-    let used = used_to c.args.latest st bytes c.loop-span.count c.loop-span.at c.in-Some.span.next line c.in-Some.ensures.found.takes_bytes.1 (omega (arith, c.loop-span.invariant.counted, c.in-Some.ensures.found.takes_bytes.0)) c.loop-span.invariant.behind c.in-Some.ensures.found.rest (end_line_is c.args.latest st (words line) S at-end)
-    (kept_next c.args.latest (kept_lines bytes) n line (lines (drop c.loop-span.at bytes)) more st c.in-Some.ensures.found.lines kept c.loop-span.invariant.passed) in
+    let used = used_to c.args.latest st bytes c.loop-span.count c.loop-span.at c.in-Some.span.next line
+    c.in-Some.ensures.found.takes_bytes.1
+    (omega (arith, c.loop-span.invariant.counted, c.in-Some.ensures.found.takes_bytes.0))
+    c.loop-span.invariant.behind c.in-Some.ensures.found.rest (end_line_is c.args.latest st (words line) S at-end)
+    (kept_next c.args.latest (kept_lines bytes) n line (lines (drop c.loop-span.at bytes)) more st
+    c.in-Some.ensures.found.lines kept c.loop-span.invariant.passed) in
     subst (λ (a : AnswerOf FileParts). Parses bytes a (objects_given (Ok front))) here
     (finished_ok bytes front S tail c.in_ok-objects.ensures used refl)

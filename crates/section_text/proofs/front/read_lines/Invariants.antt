@@ -15,10 +15,12 @@ invariant-loop-span l = record {
   within : l.at ≤ length l.bytes;
   counted : l.count ≤ l.at;
   behind : drop l.at l.bytes ≡ after_lines l.count l.bytes;
-  passed : Passed l.latest (kept_lines l.bytes) (kept_from (l.count + 1) (lines (drop l.at l.bytes))) (state_of l.state);
+  passed : Passed l.latest (kept_lines l.bytes) (kept_from (l.count + 1) (lines (drop l.at l.bytes)))
+      (state_of l.state);
   flat : IsFlatState l.state;
   tallied : Tallies l.tally (facts (parts_of (state_of l.state)));
-  same : read_file l.latest (state_of l.state) (kept_from (l.count + 1) (lines (drop l.at l.bytes))) ≡ read_file l.latest at_version (kept_lines l.bytes);
+  same : read_file l.latest (state_of l.state) (kept_from (l.count + 1) (lines (drop l.at l.bytes)))
+      ≡ read_file l.latest at_version (kept_lines l.bytes);
 }
 
 abbrev pub decreases-loop-span : goal.decreases-loop-span

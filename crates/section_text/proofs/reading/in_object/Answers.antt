@@ -9,7 +9,8 @@ use Rattle.section_text.proofs.reading.in_object.Goals as goal
 pub returns-in-Err : goal.returns-in-Err
 returns-in-Err c = record {
   takes = λ it is f t.
-      inside_err c.args.version (cost_parts c.args.head.cost) c.args.head.rule (map draft_parts c.args.front.items) c.args.name c.args.line (body_of c.args.body) it (first_broken f it) c.in-Err.fault _ (after f it)
+      inside_err c.args.version (cost_parts c.args.head.cost) c.args.head.rule (map draft_parts c.args.front.items)
+      c.args.name c.args.line (body_of c.args.body) it (first_broken f it) c.in-Err.fault _ (after f it)
       (inner_read c.args.item it is c.in_default.not-Object c.in_default.not-End)
       (c.in-Err.ensures.takes it is f t);
   flat = λ a b. tt;
@@ -18,7 +19,8 @@ returns-in-Err c = record {
 pub returns-in-Ok : goal.returns-in-Ok
 returns-in-Ok c = record {
   takes = λ it is f t.
-      inside_ok c.args.version c.args.head c.args.front c.args.name c.args.line (body_of c.args.body) it (first_broken f it) c.in-Ok.body _ (after f it)
+      inside_ok c.args.version c.args.head c.args.front c.args.name c.args.line (body_of c.args.body) it
+      (first_broken f it) c.in-Ok.body _ (after f it)
       (inner_read c.args.item it is c.in_default.not-Object c.in_default.not-End)
       (c.in-Ok.ensures.takes it is f t);
   flat = λ a b. (a, c.in-Ok.ensures.flat b);

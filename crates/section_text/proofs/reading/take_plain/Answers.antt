@@ -20,7 +20,8 @@ returns-in-Some-clause-takes c t tallies latest line =
     let it = point (x, y) in
     let plain = coordinates_held c.args.bytes.now c.in-Some.x c.in-Some.y c.in-Some.ensures.point in
     IfOk-weaker c.add_in_place.result
-    (λ (b : Bool). b ≡ true → TakesItem state_of line (judged (advance latest st it) (first_broken f it)) (Ok c.add_in_place.new.state) t (after f it))
+    (λ (b : Bool). b ≡ true → TakesItem state_of line (judged (advance latest st it) (first_broken f it))
+    (Ok c.add_in_place.new.state) t (after f it))
     (λ (b : Bool). b ≡ true → TakesLine line (judge latest st (words c.args.bytes.now)) (Ok c.add_in_place.new.state) t)
     (λ b h e. said_takes line latest st (words c.args.bytes.now) it (Ok c.add_in_place.new.state) t plain.said (h e))
     (c.add_in_place.ensures.takes f t tallies latest line)

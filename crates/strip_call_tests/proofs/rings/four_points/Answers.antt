@@ -15,5 +15,7 @@ returns c =
       few = omega (arith, ap length items);
       in_range = subst (All IsInRange) (sym items)
           (All-cons IsInRange p (q ∷ r ∷ t ∷ []) c.point.ensures
-          (All-cons IsInRange q (r ∷ t ∷ []) c.point-2.ensures (All-cons IsInRange r (t ∷ []) c.point-3.ensures (All-cons IsInRange t [] c.point-4.ensures (All-nil IsInRange)))));
+          (All-cons IsInRange q (r ∷ t ∷ []) c.point-2.ensures
+          (All-cons IsInRange r (t ∷ []) c.point-3.ensures
+          (All-cons IsInRange t [] c.point-4.ensures (All-nil IsInRange)))));
     }

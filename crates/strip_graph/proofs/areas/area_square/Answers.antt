@@ -10,12 +10,18 @@ returns-clause-value c =
     let a = c.requires.a in
     let b = c.requires.b in
     let d = c.requires.c in
-    let bx = passed_difference c.args.b.x c.args.a.x c.difference-bx.result b.x a.x c.difference-bx.ensures.value c.difference-bx.ensures.range in
-    let by' = passed_difference c.args.b.y c.args.a.y c.difference-by.result b.y a.y c.difference-by.ensures.value c.difference-by.ensures.range in
-    let bz = passed_difference c.args.b.z c.args.a.z c.difference-bz.result b.z a.z c.difference-bz.ensures.value c.difference-bz.ensures.range in
-    let cx = passed_difference c.args.c.x c.args.a.x c.difference-cx.result d.x a.x c.difference-cx.ensures.value c.difference-cx.ensures.range in
-    let cy = passed_difference c.args.c.y c.args.a.y c.difference-cy.result d.y a.y c.difference-cy.ensures.value c.difference-cy.ensures.range in
-    let cz = passed_difference c.args.c.z c.args.a.z c.difference-cz.result d.z a.z c.difference-cz.ensures.value c.difference-cz.ensures.range in
+    let bx = passed_difference c.args.b.x c.args.a.x c.difference-bx.result b.x a.x c.difference-bx.ensures.value
+    c.difference-bx.ensures.range in
+    let by' = passed_difference c.args.b.y c.args.a.y c.difference-by.result b.y a.y c.difference-by.ensures.value
+    c.difference-by.ensures.range in
+    let bz = passed_difference c.args.b.z c.args.a.z c.difference-bz.result b.z a.z c.difference-bz.ensures.value
+    c.difference-bz.ensures.range in
+    let cx = passed_difference c.args.c.x c.args.a.x c.difference-cx.result d.x a.x c.difference-cx.ensures.value
+    c.difference-cx.ensures.range in
+    let cy = passed_difference c.args.c.y c.args.a.y c.difference-cy.result d.y a.y c.difference-cy.ensures.value
+    c.difference-cy.ensures.range in
+    let cz = passed_difference c.args.c.z c.args.a.z c.difference-cz.result d.z a.z c.difference-cz.ensures.value
+    c.difference-cz.ensures.range in
     let one = c.cross_square.ensures.value ∙ ap square (same_cross _ _ _ _ _ _ _ _ by' bz cy cz) in
     let two = c.cross_square-2.ensures.value ∙ ap square (same_cross _ _ _ _ _ _ _ _ bz bx cz cx) in
     let three = c.cross_square-3.ensures.value ∙ ap square (same_cross _ _ _ _ _ _ _ _ bx by' cx cy) in

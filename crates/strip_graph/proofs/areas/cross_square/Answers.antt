@@ -12,4 +12,9 @@ returns-clause-value c =
 
 pub returns-clause-range : goal.returns-clause-range
 returns-clause-range c =
-    omega (arith, c.square.ensures.value, ap square (passed_i64 c.cross.result c.cross.ensures.range), square-le c.cross.result 8000000000000 c.cross.ensures.range)
+    omega (
+      arith,
+      c.square.ensures.value,
+      ap square (passed_i64 c.cross.result c.cross.ensures.range),
+      square-le c.cross.result 8000000000000 c.cross.ensures.range,
+    )

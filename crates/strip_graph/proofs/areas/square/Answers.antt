@@ -12,17 +12,20 @@ squared (pos m) = pos-*ℤ-pos m m
 squared (negsuc m) = negsuc-*ℤ-negsuc m m
 
 -- a square of at most that of 16 * 10 ^ 12 fits
-fits : (x : ℤ) → unsigned_abs x ≤ 16000000000000 → to_z w128 (of_z w128 (to_z w128 (of_z w128 x) *ℤ to_z w128 (of_z w128 x))) ≡ pos (unsigned_abs x * unsigned_abs x)
+fits : (x : ℤ) → unsigned_abs x ≤ 16000000000000
+    → to_z w128 (of_z w128 (to_z w128 (of_z w128 x) *ℤ to_z w128 (of_z w128 x))) ≡ pos (unsigned_abs x * unsigned_abs x)
 fits x h =
     let small : SFits w128 x = omega (arith, ints) in
     let whole : SFits w128 (pos (unsigned_abs x * unsigned_abs x)) = omega (arith, ints, mul-le-mul h h) in
-    ap (λ (y : ℤ). to_z w128 (of_z w128 (y *ℤ y))) (to_z-of_z small) ∙ ap (λ (y : ℤ). to_z w128 (of_z w128 y)) (squared x) ∙ to_z-of_z whole
+    ap (λ (y : ℤ). to_z w128 (of_z w128 (y *ℤ y))) (to_z-of_z small)
+    ∙ ap (λ (y : ℤ). to_z w128 (of_z w128 y)) (squared x) ∙ to_z-of_z whole
 
 pub overflow_cast-result : goal.overflow_cast-result
 overflow_cast-result c =
     let e = c.from-wide.ensures ∙ passed_side c.args.size c.requires in
     let h : unsigned_abs c.from-wide.result ≤ 16000000000000 = omega (arith, ap unsigned_abs e, c.requires) in
-    let few : Fits w128 (unsigned_abs c.from-wide.result * unsigned_abs c.from-wide.result) = omega (arith, mul-le-mul h h) in
+    let few : Fits w128 (unsigned_abs c.from-wide.result * unsigned_abs c.from-wide.result) =
+    omega (arith, mul-le-mul h h) in
     subst (λ z. T (non_neg z) × Fits w128 (unsigned_abs z)) (sym (fits c.from-wide.result h)) (tt, few)
 
 pub returns-clause-value : goal.returns-clause-value

@@ -7,4 +7,5 @@ unfolding around
 returns c t j k =
     let n = length c.args.ring.now in
     let some : 0 < n = omega (arith, c.requires.enough) in
-    c.loop-point.invariant (j % n) origin (omega (arith, mod-lt j some, c.loop-point-test.false)) ∙ sym (c.loop-point.invariant (k % n) origin (omega (arith, mod-lt k some, c.loop-point-test.false)))
+    c.loop-point.invariant (j % n) origin (omega (arith, mod-lt j some, c.loop-point-test.false))
+    ∙ sym (c.loop-point.invariant (k % n) origin (omega (arith, mod-lt k some, c.loop-point-test.false)))

@@ -12,11 +12,14 @@ past k n le lt =
 
 pub returns-then-index-count-clause-value : goal.returns-then-index-count-clause-value
 unfolding around
-returns-then-index-count-clause-value c = ap (λ (k : ℕ). slice_index_or c.args.points.now k origin) (sym (mod-eq_of_lt c.if-index-count.true))
+returns-then-index-count-clause-value c =
+    ap (λ (k : ℕ). slice_index_or c.args.points.now k origin) (sym (mod-eq_of_lt c.if-index-count.true))
 
 pub returns-then-index-count-2-clause-value : goal.returns-then-index-count-2-clause-value
 unfolding around
-returns-then-index-count-2-clause-value c = ap (λ (k : ℕ). slice_index_or c.args.points.now k origin) (past c.args.index (length c.args.points.now) c.if-index-count.false c.if-index-count-2.true)
+returns-then-index-count-2-clause-value c =
+    ap (λ (k : ℕ). slice_index_or c.args.points.now k origin)
+    (past c.args.index (length c.args.points.now) c.if-index-count.false c.if-index-count-2.true)
 
 pub returns-else-index-count-2-clause-value : goal.returns-else-index-count-2-clause-value
 unfolding around

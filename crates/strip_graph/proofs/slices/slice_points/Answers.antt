@@ -24,7 +24,8 @@ read : (ring points : List Point) (i : ℕ) → points ≡ ring → i < length r
 unfolding around
 read ring points i e l = ap₂ (λ (ps : List Point) (k : ℕ). get_or ps k origin) e (sym (mod-eq_of_lt l))
 
-cut-is : (d t : ℕ) (c : Cut) (p q p' q' : Point) → c.x ≡ scaled d t p.x q.x → c.y ≡ scaled d t p.y q.y → p ≡ p' → q ≡ q' → c ≡ between d t p' q'
+cut-is : (d t : ℕ) (c : Cut) (p q p' q' : Point) → c.x ≡ scaled d t p.x q.x → c.y ≡ scaled d t p.y q.y → p ≡ p' → q ≡ q'
+    → c ≡ between d t p' q'
 cut-is d t c p q p' q' x y e f =
     let make : ℤ → ℤ → Cut = λ x y. record { x = x; y = y } in
     ap₂ make x y ∙ ap₂ (between d t) e f
@@ -40,7 +41,9 @@ loop-span-init c =
     record {
       can = tt;
       finite = tt;
-      points = map-start (rows s) (cols s) (λ (x : SpanStep). span_cut s d t x.row x.col) c.in_ok-points.points.items left (spans c.args.tiling.now.row 0 c.args.tiling.now.word.items) (λ x. cut-round s d t x.row x.col) c.in_ok-points.ensures.items (is ∙ passed.spans);
+      points = map-start (rows s) (cols s) (λ (x : SpanStep). span_cut s d t x.row x.col) c.in_ok-points.points.items
+          left (spans c.args.tiling.now.row 0 c.args.tiling.now.word.items) (λ x. cut-round s d t x.row x.col)
+          c.in_ok-points.ensures.items (is ∙ passed.spans);
       range = subst (All (IsOver d)) (sym c.in_ok-points.ensures.items) (All-nil (IsOver d));
       spans = subst (All (IsOf (rows s) (cols s))) (sym is) passed.range;
     }
@@ -56,14 +59,19 @@ loop-span-preserved c =
     let step : c.loop-span.span-iterator ≡ span ∷ rest = c.in-Some.ensures.steps in
     let made = c.push.new.self.items in
     let more = c.in_ok-push.ensures.items in
-    let here : IsOf (rows s) (cols s) span = All-head (IsOf (rows s) (cols s)) span rest (subst (All (IsOf (rows s) (cols s))) step inv.spans) in
-    let p = read s.low c.as_slice-low.result.now span.row (c.as_slice-low.ensures.value ∙ c.low.ensures.points) here.row in
-    let q = read s.high c.as_slice-high.result.now span.col (c.as_slice-high.ensures.value ∙ c.high.ensures.points) here.col in
-    let is : c.cut_at.result ≡ span_cut s d t span.row span.col = cut-is d t c.cut_at.result _ _ _ _ c.cut_at.ensures.x c.cut_at.ensures.y p q in
+    let here : IsOf (rows s) (cols s) span =
+    All-head (IsOf (rows s) (cols s)) span rest (subst (All (IsOf (rows s) (cols s))) step inv.spans) in
+    let p = read s.low c.as_slice-low.result.now span.row (c.as_slice-low.ensures.value ∙ c.low.ensures.points) here.row
+    in
+    let q = read s.high c.as_slice-high.result.now span.col (c.as_slice-high.ensures.value ∙ c.high.ensures.points)
+    here.col in
+    let is : c.cut_at.result ≡ span_cut s d t span.row span.col =
+    cut-is d t c.cut_at.result _ _ _ _ c.cut_at.ensures.x c.cut_at.ensures.y p q in
     record {
       can = tt;
       finite = tt;
-      points = map-next (λ (x : SpanStep). span_cut s d t x.row x.col) c.loop-span.points.items made _ c.loop-span.span-iterator rest span c.cut_at.result more is step inv.points;
+      points = map-next (λ (x : SpanStep). span_cut s d t x.row x.col) c.loop-span.points.items made _
+          c.loop-span.span-iterator rest span c.cut_at.result more is step inv.points;
       range = all_pushed (IsOver d) c.loop-span.points.items made c.cut_at.result more inv.range c.cut_at.ensures.range;
       spans = All-rest (IsOf (rows s) (cols s)) span rest c.loop-span.span-iterator step inv.spans;
     }

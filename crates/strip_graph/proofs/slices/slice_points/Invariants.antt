@@ -8,7 +8,8 @@ abbrev pub invariant-loop-span : goal.invariant-loop-span
 invariant-loop-span l = record {
   can : (goal.iterator-loop-span).can_next l.span-iterator;
   finite : (goal.iterator-loop-span).is_finite l.span-iterator;
-  points : l.points.items ++ map (λ s. span_cut l.pair l.den l.part s.row s.col) l.span-iterator ≡ slice_loop l.pair l.den l.part l.tiling.row 0 l.tiling.word.items;
+  points : l.points.items ++ map (λ s. span_cut l.pair l.den l.part s.row s.col) l.span-iterator
+      ≡ slice_loop l.pair l.den l.part l.tiling.row 0 l.tiling.word.items;
   range : All (IsOver l.den) l.points.items;
   spans : All (IsOf (rows l.pair) (cols l.pair)) l.span-iterator;
 }

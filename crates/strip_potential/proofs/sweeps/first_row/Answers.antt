@@ -15,7 +15,8 @@ loop-c-init c =
     record {
       count = length-set c.args.values.now 0 (pos 0) ∙ c.requires;
       last = sym (value_first s p);
-      done = set_more (λ (k : ℕ) (v : ℤ). v ≡ potential_at s 0 k) (pos 0) c.args.values.now 0 (pos 0) (omega (arith, c.requires)) (λ k lt. absurd (omega arith)) (sym (value_first s p));
+      done = set_more (λ (k : ℕ) (v : ℤ). v ≡ potential_at s 0 k) (pos 0) c.args.values.now 0 (pos 0)
+          (omega (arith, c.requires)) (λ k lt. absurd (omega arith)) (sym (value_first s p));
     }
 
 pub by_h-value-requires-clause-value : goal.by_h-value-requires-clause-value
@@ -27,7 +28,8 @@ by_h-value-requires-clause-value c =
       ints,
       c.loop-c.value-is,
       c.loop-c.invariant.last,
-      potential_small s 0 (c.loop-c.c - 1) p (omega (arith, p.low.enough)) (omega (arith, c.loop-c.invariant.count, c.loop-c-test.true, c.loop-c.auto.values)),
+      potential_small s 0 (c.loop-c.c - 1) p (omega (arith, p.low.enough))
+          (omega (arith, c.loop-c.invariant.count, c.loop-c-test.true, c.loop-c.auto.values)),
     )
 
 pub loop-c-preserved : goal.loop-c-preserved
@@ -35,12 +37,23 @@ loop-c-preserved c =
     let s = c.args.pair.now in
     let p : IsStrip s = c.low-low.ensures.strip in
     let k : ℕ = c.loop-c.c in
-    let cost = cost_at c.round_row-here.result.strip s c.round_row-here.result.row 0 (k - 1) H c.round_row-here.ensures.strip c.round_row-here.ensures.row in
+    let cost = cost_at c.round_row-here.result.strip s c.round_row-here.result.row 0 (k - 1) H
+    c.round_row-here.ensures.strip c.round_row-here.ensures.row in
     let f : SFits w128 c.by_h-value.result = search rules in
-    let is : to_z w128 (of_z w128 c.by_h-value.result) ≡ potential_at s 0 k = omega (arith, ints, c.loop-c.value-is, c.loop-c.invariant.last, c.by_h-value.ensures, cost, value_along s k p (omega (arith, c.loop-c.auto.c))) in
+    let is : to_z w128 (of_z w128 c.by_h-value.result) ≡ potential_at s 0 k =
+    omega (
+      arith,
+      ints,
+      c.loop-c.value-is,
+      c.loop-c.invariant.last,
+      c.by_h-value.ensures,
+      cost,
+      value_along s k p (omega (arith, c.loop-c.auto.c)),
+    ) in
     let e : k ≡ k + 1 - 1 = omega arith in
     record {
       count = length-set c.loop-c.values k _ ∙ c.loop-c.invariant.count;
       last = is ∙ ap (potential_at s 0) e;
-      done = set_more (λ (k : ℕ) (v : ℤ). v ≡ potential_at s 0 k) (pos 0) c.loop-c.values k _ (omega (arith, c.loop-c-test.true, c.loop-c.auto.values)) c.loop-c.invariant.done is;
+      done = set_more (λ (k : ℕ) (v : ℤ). v ≡ potential_at s 0 k) (pos 0) c.loop-c.values k _
+          (omega (arith, c.loop-c-test.true, c.loop-c.auto.values)) c.loop-c.invariant.done is;
     }

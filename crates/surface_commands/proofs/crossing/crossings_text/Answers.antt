@@ -15,17 +15,22 @@ crossings-requires-clause-known c =
     let ps = c.args.mesh.now.parts.items in
     let i = c.loop-place.place in
     let l : i < length ps = omega (arith, c.loop-place-test.true, ap length c.deref-part-items.ensures.value) in
-    let here = c.deref-in-loop-place.ensures.value ∙ part_read ps c.deref-part-items.result.now i c.part-item.result [] c.deref-part-items.ensures.value l c.part-item.is in
+    let here = c.deref-in-loop-place.ensures.value
+    ∙ part_read ps c.deref-part-items.result.now i c.part-item.result [] c.deref-part-items.ensures.value l
+    c.part-item.is in
     let there : i < length (triangle_lists ps) = omega (arith, length-map ps (λ (x : Part). x.items)) in
     subst (λ (xs : List (List ℕ)). All (All (λ id. id < length c.deref.result.now)) xs) (sym here)
-    (subst (λ (vs : List Point). All (All (λ id. id < length vs)) (get_or (triangle_lists ps) i [])) (sym c.deref.ensures.value) (c.requires.known_ids i [] there))
+    (subst (λ (vs : List Point). All (All (λ id. id < length vs)) (get_or (triangle_lists ps) i []))
+    (sym c.deref.ensures.value) (c.requires.known_ids i [] there))
 
 pub crossings-requires-clause-few : goal.crossings-requires-clause-few
 crossings-requires-clause-few c =
     let ps = c.args.mesh.now.parts.items in
     let i = c.loop-place.place in
     let l : i < length ps = omega (arith, c.loop-place-test.true, ap length c.deref-part-items.ensures.value) in
-    let here = c.deref-in-loop-place.ensures.value ∙ part_read ps c.deref-part-items.result.now i c.part-item.result [] c.deref-part-items.ensures.value l c.part-item.is in
+    let here = c.deref-in-loop-place.ensures.value
+    ∙ part_read ps c.deref-part-items.result.now i c.part-item.result [] c.deref-part-items.ensures.value l
+    c.part-item.is in
     omega (arith, ap length here, few_in_part ps i MAX_MESH_TRIANGLES l c.requires.few_triangles)
 
 pub put_crossings-requires : goal.put_crossings-requires
@@ -33,10 +38,19 @@ put_crossings-requires c =
     let ps = c.args.mesh.now.parts.items in
     let i = c.loop-place.place in
     let l : i < length ps = omega (arith, c.loop-place-test.true, ap length c.deref-part-items.ensures.value) in
-    let here = c.deref-in-loop-place.ensures.value ∙ part_read ps c.deref-part-items.result.now i c.part-item.result [] c.deref-part-items.ensures.value l c.part-item.is in
+    let here = c.deref-in-loop-place.ensures.value
+    ∙ part_read ps c.deref-part-items.result.now i c.part-item.result [] c.deref-part-items.ensures.value l
+    c.part-item.is in
     let there : i < length (triangle_lists ps) = omega (arith, length-map ps (λ (x : Part). x.items)) in
-    let long = ap length c.in_ok-found.ensures.counts ∙ counts_long c.deref.result.now c.deref-in-loop-place.result.now ∙ ap length here in
-    omega (arith, long, c.loop-place.invariant.first, c.requires.few_triangles, sum_by_more_le length (triangle_lists ps) i [] there)
+    let long = ap length c.in_ok-found.ensures.counts ∙ counts_long c.deref.result.now c.deref-in-loop-place.result.now
+    ∙ ap length here in
+    omega (
+      arith,
+      long,
+      c.loop-place.invariant.first,
+      c.requires.few_triangles,
+      sum_by_more_le length (triangle_lists ps) i [] there,
+    )
 
 pub loop-place-preserved : goal.loop-place-preserved
 loop-place-preserved c =
@@ -44,19 +58,27 @@ loop-place-preserved c =
     let vs : List Point = c.args.mesh.now.vertices.items in
     let i = c.loop-place.place in
     let l : i < length ps = omega (arith, c.loop-place-test.true, ap length c.deref-part-items.ensures.value) in
-    let item = part_read ps c.deref-part-items.result.now i c.part-item.result [] c.deref-part-items.ensures.value l c.part-item.is in
+    let item = part_read ps c.deref-part-items.result.now i c.part-item.result [] c.deref-part-items.ensures.value l
+    c.part-item.is in
     let here = c.deref-in-loop-place.ensures.value ∙ item in
     let there : i < length (triangle_lists ps) = omega (arith, length-map ps (λ (x : Part). x.items)) in
     let part : List (List ℕ) = get_or (triangle_lists ps) i [] in
     let found = c.in_ok-found.found in
     let counts : found.counts.items ≡ crossing_counts (part_corners vs part) =
-    c.in_ok-found.ensures.counts ∙ ap₂ (λ (ws : List Point) (ts : List (List ℕ)). crossing_counts (part_corners ws ts)) c.deref.ensures.value here in
+    c.in_ok-found.ensures.counts ∙ ap₂ (λ (ws : List Point) (ts : List (List ℕ)). crossing_counts (part_corners ws ts))
+    c.deref.ensures.value here in
     let pairs : found.pairs ≡ crossing_pairs (part_corners vs part) =
-    c.in_ok-found.ensures.pairs ∙ ap₂ (λ (ws : List Point) (ts : List (List ℕ)). crossing_pairs (part_corners ws ts)) c.deref.ensures.value here in
-    let text : c.put_crossings.new.out.items ≡ c.loop-place.text.items ++ crossed_text (i + 1) c.loop-place.first (crossing_counts (part_corners vs part)) (crossing_pairs (part_corners vs part)) =
-    c.in_ok-put_crossings.ensures ∙ ap₂ (λ (ns : List ℕ) (n : ℕ). c.loop-place.text.items ++ crossed_text (i + 1) c.loop-place.first ns n) counts pairs in
+    c.in_ok-found.ensures.pairs ∙ ap₂ (λ (ws : List Point) (ts : List (List ℕ)). crossing_pairs (part_corners ws ts))
+    c.deref.ensures.value here in
+    let text : c.put_crossings.new.out.items ≡ c.loop-place.text.items
+    ++ crossed_text (i + 1) c.loop-place.first (crossing_counts (part_corners vs part))
+    (crossing_pairs (part_corners vs part)) =
+    c.in_ok-put_crossings.ensures ∙ ap₂
+    (λ (ns : List ℕ) (n : ℕ). c.loop-place.text.items ++ crossed_text (i + 1) c.loop-place.first ns n) counts pairs
+    in
     let long : c.len-first.result ≡ length part = c.len-first.ensures ∙ c.part-item.result.ok.0 ∙ ap length item in
     record {
-      lines = crossed_more vs (triangle_lists ps) i c.loop-place.first c.len-first.result c.loop-place.text.items c.put_crossings.new.out.items _ there long text c.loop-place.invariant.lines;
+      lines = crossed_more vs (triangle_lists ps) i c.loop-place.first c.len-first.result c.loop-place.text.items
+          c.put_crossings.new.out.items _ there long text c.loop-place.invariant.lines;
       first = omega (arith, c.loop-place.invariant.first, long, sum_by_more length (triangle_lists ps) i [] there);
     }

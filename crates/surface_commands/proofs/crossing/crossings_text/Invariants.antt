@@ -6,6 +6,7 @@ use Rattle.surface_commands.proofs.crossing.crossings_text.Given as goal
 
 abbrev pub invariant-loop-place : goal.invariant-loop-place
 invariant-loop-place l = record {
-  lines : l.text.items ++ crossing_parts_text l.mesh.vertices.items (l.place + 1) l.first (drop l.place (triangle_lists l.mesh.parts.items)) ≡ crossings_text (surface_of l.mesh);
+  lines : l.text.items ++ crossing_parts_text l.mesh.vertices.items (l.place + 1) l.first
+      (drop l.place (triangle_lists l.mesh.parts.items)) ≡ crossings_text (surface_of l.mesh);
   first : l.first ≡ 1 + sum_by length (take l.place (triangle_lists l.mesh.parts.items));
 }

@@ -11,7 +11,9 @@ returns-in-Err-Found-clause-written g c =
     let before = g.P.PairSolver.solved_pairs c.args.solver.now in
     let after = g.P.PairSolver.solved_pairs c.densified_text.new.solver in
     let found = c.in-Err-Found in
-    found_written rule before after found.fault c.refused.result (subst (λ (f : DensifyFault). Densified rule before after (Err f)) found.field-0-is found.ensures.reply) c.refused.ensures.written
+    found_written rule before after found.fault c.refused.result
+    (subst (λ (f : DensifyFault). Densified rule before after (Err f)) found.field-0-is found.ensures.reply)
+    c.refused.ensures.written
 
 pub returns-in-Err-Mid-clause-written : goal.returns-in-Err-Mid-clause-written
 returns-in-Err-Mid-clause-written g c =
@@ -19,5 +21,6 @@ returns-in-Err-Mid-clause-written g c =
     let before = g.P.PairSolver.solved_pairs c.args.solver.now in
     let after = g.P.PairSolver.solved_pairs c.densified_text.new.solver in
     let mid = c.in-Err-Mid in
-    middle_written rule before after mid.fault c.refused_middle.result (subst (λ (f : DensifyFault). Densified rule before after (Err f)) mid.field-0-is mid.ensures.reply)
+    middle_written rule before after mid.fault c.refused_middle.result
+    (subst (λ (f : DensifyFault). Densified rule before after (Err f)) mid.field-0-is mid.ensures.reply)
     c.refused_middle.ensures.status c.refused_middle.ensures.text

@@ -8,7 +8,8 @@ use Rattle.surface_commands.proofs.densifying.densified_text.Goals as goal
 pub returns-in_err-objects-clause-reply : goal.returns-in_err-objects-clause-reply
 returns-in_err-objects-clause-reply g c =
     let bytes = c.args.input.now in
-    stops (IsTextFault bytes) (IsTextOfFile bytes) densify (g.P.PairSolver.solved_pairs c.args.solver.now) c.from_residual.result c.in_err-objects.field-0.0 c.from_residual.ensures.1 c.in_err-objects.ensures.fault
+    stops (IsTextFault bytes) (IsTextOfFile bytes) densify (g.P.PairSolver.solved_pairs c.args.solver.now)
+    c.from_residual.result c.in_err-objects.field-0.0 c.from_residual.ensures.1 c.in_err-objects.ensures.fault
 
 pub returns-in_err-sections-clause-reply : goal.returns-in_err-sections-clause-reply
 returns-in_err-sections-clause-reply g c =
@@ -17,7 +18,8 @@ returns-in_err-sections-clause-reply g c =
     let n = g.P.PairSolver.solved_pairs c.args.solver.now in
     let out = c.from_residual-in_err-sections in
     went_to (IsTextFault bytes) (IsTextOfFile bytes) densify n n out.result F c.in_ok-objects.ensures.text
-    (stops (AreSeveral F) (IsOnly F) densify_sections n out.result c.in_err-sections.field-0.0 out.ensures.1 c.in_err-sections.ensures.fault)
+    (stops (AreSeveral F) (IsOnly F) densify_sections n out.result c.in_err-sections.field-0.0 out.ensures.1
+    c.in_err-sections.ensures.fault)
 
 pub returns-in_err-made-clause-reply : goal.returns-in_err-made-clause-reply
 returns-in_err-made-clause-reply g c =
@@ -30,7 +32,8 @@ returns-in_err-made-clause-reply g c =
     let says = c.in_err-made.ensures in
     went_to (IsTextFault bytes) (IsTextOfFile bytes) densify before after out.result F c.in_ok-objects.ensures.text
     (went_to (AreSeveral F) (IsOnly F) densify_sections before after out.result S c.in_ok-sections.ensures.only
-    (not_densified S before after out.result c.in_err-made.field-0.0 out.ensures.1 says.fault says.uncounted says.counted_middle says.not_less))
+    (not_densified S before after out.result c.in_err-made.field-0.0 out.ensures.1 says.fault says.uncounted
+    says.counted_middle says.not_less))
 
 pub returns-clause-reply : goal.returns-clause-reply
 returns-clause-reply g c =

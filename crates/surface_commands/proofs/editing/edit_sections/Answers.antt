@@ -17,12 +17,17 @@ returns-in_err-find_pairs-clause-reply g c =
     let S = c.args.sections in
     let tail = kept_from (c.args.tail.passed + 1) (lines (drop c.args.tail.at c.args.input.now)) in
     let n = g.P.PairSolver.solved_pairs c.args.solver.now in
-    failed (IsFound S) (ArePairs S) (λ ps. Then (IsTooMany tail) (AreFew tail) (on_edits g.W.SurfaceWriter.format S (length ps))) n n c.from_residual.result c.in_err-find_pairs.field-0.0 c.from_residual.ensures.1 c.in_err-find_pairs.ensures.fault (inr refl) (omega arith)
+    failed (IsFound S) (ArePairs S) (λ ps.
+    Then (IsTooMany tail) (AreFew tail) (on_edits g.W.SurfaceWriter.format S (length ps))) n n
+    c.from_residual.result c.in_err-find_pairs.field-0.0 c.from_residual.ensures.1 c.in_err-find_pairs.ensures.fault
+    (inr refl) (omega arith)
 
 pub returns-in-Some-clause-reply : goal.returns-in-Some-clause-reply
 returns-in-Some-clause-reply g c =
     let tail = kept_from (c.args.tail.passed + 1) (lines (drop c.args.tail.at c.args.input.now)) in
-    many_refused g.W.SurfaceWriter.format c.args.sections tail (map pair_parts c.in_ok-find_pairs.field-0.items) c.in-Some.line (g.P.PairSolver.solved_pairs c.args.solver.now) c.in_ok-find_pairs.ensures.pairs c.in-Some.ensures
+    many_refused g.W.SurfaceWriter.format c.args.sections tail (map pair_parts c.in_ok-find_pairs.field-0.items)
+    c.in-Some.line (g.P.PairSolver.solved_pairs c.args.solver.now) c.in_ok-find_pairs.ensures.pairs
+    c.in-Some.ensures
 
 pub returns-in_err-session-clause-reply : goal.returns-in_err-session-clause-reply
 returns-in_err-session-clause-reply g c =
@@ -32,8 +37,11 @@ returns-in_err-session-clause-reply g c =
     let after = g.P.PairSolver.solved_pairs c.open.new.solver in
     let fault = c.in_err-session.field-0.0 in
     let out = c.from_residual-in_err-session in
-    failed (IsFound S) (ArePairs S) (λ ps. Then (IsTooMany tail) (AreFew tail) (on_edits g.W.SurfaceWriter.format S (length ps))) before after out.result fault out.ensures.1
-    c.in_err-session.ensures.fault (left_count S [] before after fault c.in_err-session.ensures.fault_count) c.in_err-session.ensures.not_less
+    failed (IsFound S) (ArePairs S) (λ ps.
+    Then (IsTooMany tail) (AreFew tail) (on_edits g.W.SurfaceWriter.format S (length ps))) before after out.result
+    fault out.ensures.1
+    c.in_err-session.ensures.fault (left_count S [] before after fault c.in_err-session.ensures.fault_count)
+    c.in_err-session.ensures.not_less
 
 pub returns-clause-reply : goal.returns-clause-reply
 returns-clause-reply g c =
@@ -45,5 +53,9 @@ returns-clause-reply g c =
     let after = g.P.PairSolver.solved_pairs c.edits_text.new.solver in
     let same : session.sections ≡ S = c.in_ok-session.ensures.sections in
     let none : None ≡ first_number (drop MAX_EDITS tail) = search rules in
-    edits_told g.W.SurfaceWriter.format S tail session.pairs before middle after c.in_ok-text.text (subst (λ (U : Parts). ArePairs U session.pairs) same c.in_ok-session.ensures.solved.pairs) (few_lines tail none)
-    c.in_ok-session.ensures.counted c.in_ok-session.ensures.not_less c.in_ok-text.ensures.later (subst (λ (U : Parts). IsTextOfEdits g.W.SurfaceWriter.format U (lines_of tail) c.in_ok-text.text.items middle after) same c.in_ok-text.ensures.text)
+    edits_told g.W.SurfaceWriter.format S tail session.pairs before middle after c.in_ok-text.text
+    (subst (λ (U : Parts). ArePairs U session.pairs) same c.in_ok-session.ensures.solved.pairs)
+    (few_lines tail none)
+    c.in_ok-session.ensures.counted c.in_ok-session.ensures.not_less c.in_ok-text.ensures.later
+    (subst (λ (U : Parts). IsTextOfEdits g.W.SurfaceWriter.format U (lines_of tail) c.in_ok-text.text.items middle
+    after) same c.in_ok-text.ensures.text)

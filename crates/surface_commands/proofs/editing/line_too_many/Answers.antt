@@ -12,7 +12,8 @@ loop-preserved c =
     record {
       within = found.in_order.3;
       passed = omega (arith, found.counted.1, c.loop.invariant.passed);
-      behind = behind_more (kept_from (c.args.tail.passed + 1) (lines (drop c.args.tail.at text))) (kept_from (c.in-Some.line.number + 1) (lines (drop c.in-Some.line.next text))) c.loop.counter _
+      behind = behind_more (kept_from (c.args.tail.passed + 1) (lines (drop c.args.tail.at text)))
+          (kept_from (c.in-Some.line.number + 1) (lines (drop c.in-Some.line.next text))) c.loop.counter _
           (c.loop.invariant.behind ∙ found.kept);
     }
 
@@ -20,18 +21,21 @@ pub returns-in_default : goal.returns-in_default
 returns-in_default c =
     let kept = kept_from (c.args.tail.passed + 1) (lines (drop c.args.tail.at c.args.input.now)) in
     let early : c.loop.counter ≤ MAX_EDITS = omega arith in
-    ap first_number (sym (behind_all kept c.loop.counter MAX_EDITS early (c.loop.invariant.behind ∙ c.in_default.ensures.none.0 refl)))
+    ap first_number (sym (behind_all kept c.loop.counter MAX_EDITS early
+    (c.loop.invariant.behind ∙ c.in_default.ensures.none.0 refl)))
 
 pub returns-in-Some-kept_line_at : goal.returns-in-Some-kept_line_at
 returns-in-Some-kept_line_at c =
     let kept = kept_from (c.args.tail.passed + 1) (lines (drop c.args.tail.at c.args.input.now)) in
     let all : c.loop.counter ≡ MAX_EDITS = omega arith in
-    let behind = subst (λ (n : ℕ). drop n kept ≡ kept_from (c.loop.number + 1) (lines (drop c.loop.at c.args.input.now))) all c.loop.invariant.behind in
+    let behind = subst (λ (n : ℕ). drop n kept
+    ≡ kept_from (c.loop.number + 1) (lines (drop c.loop.at c.args.input.now))) all c.loop.invariant.behind in
     ap first_number (sym (behind ∙ c.in-Some-kept_line_at.ensures.found.kept))
 
 pub returns-in-None : goal.returns-in-None
 returns-in-None c =
     let kept = kept_from (c.args.tail.passed + 1) (lines (drop c.args.tail.at c.args.input.now)) in
     let all : c.loop.counter ≡ MAX_EDITS = omega arith in
-    let behind = subst (λ (n : ℕ). drop n kept ≡ kept_from (c.loop.number + 1) (lines (drop c.loop.at c.args.input.now))) all c.loop.invariant.behind in
+    let behind = subst (λ (n : ℕ). drop n kept
+    ≡ kept_from (c.loop.number + 1) (lines (drop c.loop.at c.args.input.now))) all c.loop.invariant.behind in
     ap first_number (sym (behind ∙ c.in-None.ensures.none.0 refl))

@@ -6,5 +6,6 @@ abbrev pub invariant-loop : goal.invariant-loop
 invariant-loop l = record {
   within : l.at ≤ length l.input;
   passed : l.number ≤ l.at;
-  behind : drop l.counter (kept_from (l.fn.tail.passed + 1) (lines (drop l.fn.tail.at l.input))) ≡ kept_from (l.number + 1) (lines (drop l.at l.input));
+  behind : drop l.counter (kept_from (l.fn.tail.passed + 1) (lines (drop l.fn.tail.at l.input)))
+      ≡ kept_from (l.number + 1) (lines (drop l.at l.input));
 }

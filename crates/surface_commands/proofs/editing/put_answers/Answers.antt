@@ -22,8 +22,10 @@ loop-line-preserved g c =
       few = omega (arith, found.counted.0, found.counted.1, c.loop-line.invariant.few);
       later = omega (arith, c.loop-line.invariant.later, c.answer_line.ensures.later);
       same_workers = c.answer_line.ensures.same_workers ∙ c.loop-line.invariant.same_workers;
-      so_far = one_more _ _ _ _ _ _ _ _ _ _ _ _ _ _ c.loop-line.invariant.so_far (ap lines_of found.kept) c.in_ok-answer_line.ensures.answered;
+      so_far = one_more _ _ _ _ _ _ _ _ _ _ _ _ _ _ c.loop-line.invariant.so_far (ap lines_of found.kept)
+          c.in_ok-answer_line.ensures.answered;
     }
 
 pub returns-clause-edited : goal.returns-clause-edited
-returns-clause-edited g c = all_answered _ _ _ _ _ _ _ _ _ c.loop-line.invariant.so_far (ap lines_of (c.in_default.ensures.none.0 refl))
+returns-clause-edited g c = all_answered _ _ _ _ _ _ _ _ _ c.loop-line.invariant.so_far
+    (ap lines_of (c.in_default.ensures.none.0 refl))

@@ -11,8 +11,10 @@ invariant-loop-line g l = record {
   few : l.count ≤ l.at;
   later : g.P.PairSolver.solved_pairs l.fn.solver ≤ g.P.PairSolver.solved_pairs l.solver;
   same_workers : g.P.PairSolver.worker_count l.solver ≡ g.P.PairSolver.worker_count l.fn.solver;
-  so_far : SoFar l.fn.session.sections (lines_of (kept_from (l.fn.tail.passed + 1) (lines (drop l.fn.tail.at l.input)))) (lines_of (kept_from (l.number + 1) (lines (drop l.at l.input))))
-      l.count l.fn.out.items l.out.items l.session.sections (g.P.PairSolver.solved_pairs l.fn.solver) (g.P.PairSolver.solved_pairs l.solver);
+  so_far : SoFar l.fn.session.sections (lines_of (kept_from (l.fn.tail.passed + 1) (lines (drop l.fn.tail.at l.input))))
+      (lines_of (kept_from (l.number + 1) (lines (drop l.at l.input))))
+      l.count l.fn.out.items l.out.items l.session.sections (g.P.PairSolver.solved_pairs l.fn.solver)
+      (g.P.PairSolver.solved_pairs l.solver);
 }
 
 abbrev pub decreases-loop-line : goal.decreases-loop-line

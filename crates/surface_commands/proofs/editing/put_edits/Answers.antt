@@ -12,13 +12,21 @@ returns-clause-text g c =
     let x = h.editing in
     let b = c.in_ok-built.built in
     on_ok c.put_mesh.result (λ made empty. (
-    let first : c.put_answers.new.out.items ≡ answers_text 1 x.answers = h.text ∙ ap (λ (s : List ℕ). s ++ answers_text 1 x.answers) empty in
+    let first : c.put_answers.new.out.items ≡ answers_text 1 x.answers = h.text
+    ∙ ap (λ (s : List ℕ). s ++ answers_text 1 x.answers) empty in
     record {
       editing = x;
       is_editing = h.is_editing;
       built = b;
-      surface = subst (λ (T : Parts). IsSurfaceOfOne T b) h.sections (record { is_built = c.in_ok-built.ensures.built; valid = c.in_ok-built.ensures.valid; closed = c.in_ok-built.ensures.closed });
-      text = text_is g.W.SurfaceWriter.format x.answers b c.in_ok-count.count c.put_answers.new.out.items c.put_total.new.out.items c.put_mesh.new.out.items first h.number c.in_ok-put_total.ensures made;
+      surface = subst (λ (T : Parts). IsSurfaceOfOne T b) h.sections
+          (record {
+            is_built = c.in_ok-built.ensures.built;
+            valid = c.in_ok-built.ensures.valid;
+            closed =
+                c.in_ok-built.ensures.closed;
+          });
+      text = text_is g.W.SurfaceWriter.format x.answers b c.in_ok-count.count c.put_answers.new.out.items
+          c.put_total.new.out.items c.put_mesh.new.out.items first h.number c.in_ok-put_total.ensures made;
       raised = h.raised;
     }
     )) c.put_mesh.ensures

@@ -10,7 +10,8 @@ use Rattle.surface_commands.proofs.MeshLemmas.{is_solid, zip_one}
 use Rattle.surface_commands.proofs.measuring.parts_measured.Goals as goal
 
 pub measure-requires-clause-in_range : goal.measure-requires-clause-in_range
-measure-requires-clause-in_range c = subst (λ (vs : List Point). All IsInRange vs) (sym c.deref.ensures.value) c.requires.in_range
+measure-requires-clause-in_range c =
+    subst (λ (vs : List Point). All IsInRange vs) (sym c.deref.ensures.value) c.requires.in_range
 
 pub measure-requires-clause-few_vertices : goal.measure-requires-clause-few_vertices
 measure-requires-clause-few_vertices c = omega (arith, ap length c.deref.ensures.value, c.requires.few_vertices)
@@ -20,16 +21,22 @@ measure-requires-clause-known c =
     let ps = c.args.mesh.now.parts.items in
     let i = c.loop-part.part-index in
     let l : i < length ps = omega (arith, c.loop-part-test.true, ap length c.deref-part-items.ensures.value) in
-    let here = c.deref-in-loop-part.ensures.value ∙ part_read ps c.deref-part-items.result.now i c.part-item.result [] c.deref-part-items.ensures.value l c.part-item.is in
+    let here = c.deref-in-loop-part.ensures.value
+    ∙ part_read ps c.deref-part-items.result.now i c.part-item.result [] c.deref-part-items.ensures.value l
+    c.part-item.is in
     let there : i < length (triangle_lists ps) = omega (arith, length-map ps (λ (x : Part). x.items)) in
-    subst (λ (xs : List (List ℕ)). All (All (λ id. id < length c.deref.result.now)) xs) (sym here) (subst (λ (vs : List Point). All (All (λ id. id < length vs)) (get_or (triangle_lists ps) i [])) (sym c.deref.ensures.value) (c.requires.known_ids i [] there))
+    subst (λ (xs : List (List ℕ)). All (All (λ id. id < length c.deref.result.now)) xs) (sym here)
+    (subst (λ (vs : List Point). All (All (λ id. id < length vs)) (get_or (triangle_lists ps) i []))
+    (sym c.deref.ensures.value) (c.requires.known_ids i [] there))
 
 pub measure-requires-clause-some : goal.measure-requires-clause-some
 measure-requires-clause-some c =
     let ps = c.args.mesh.now.parts.items in
     let i = c.loop-part.part-index in
     let l : i < length ps = omega (arith, c.loop-part-test.true, ap length c.deref-part-items.ensures.value) in
-    let here = c.deref-in-loop-part.ensures.value ∙ part_read ps c.deref-part-items.result.now i c.part-item.result [] c.deref-part-items.ensures.value l c.part-item.is in
+    let here = c.deref-in-loop-part.ensures.value
+    ∙ part_read ps c.deref-part-items.result.now i c.part-item.result [] c.deref-part-items.ensures.value l
+    c.part-item.is in
     let there : i < length (triangle_lists ps) = omega (arith, length-map ps (λ (x : Part). x.items)) in
     omega (arith, ap length here, c.requires.some_triangle i [] there)
 
@@ -38,7 +45,9 @@ measure-requires-clause-few c =
     let ps = c.args.mesh.now.parts.items in
     let i = c.loop-part.part-index in
     let l : i < length ps = omega (arith, c.loop-part-test.true, ap length c.deref-part-items.ensures.value) in
-    let here = c.deref-in-loop-part.ensures.value ∙ part_read ps c.deref-part-items.result.now i c.part-item.result [] c.deref-part-items.ensures.value l c.part-item.is in
+    let here = c.deref-in-loop-part.ensures.value
+    ∙ part_read ps c.deref-part-items.result.now i c.part-item.result [] c.deref-part-items.ensures.value l
+    c.part-item.is in
     omega (arith, ap length here, few_in_part ps i MAX_MESH_TRIANGLES l c.requires.few_triangles)
 
 pub loop-part-preserved : goal.loop-part-preserved
@@ -47,7 +56,9 @@ loop-part-preserved c =
     let vs : List Point = c.args.mesh.now.vertices.items in
     let i = c.loop-part.part-index in
     let l : i < length ps = omega (arith, c.loop-part-test.true, ap length c.deref-part-items.ensures.value) in
-    let here = c.deref-in-loop-part.ensures.value ∙ part_read ps c.deref-part-items.result.now i c.part-item.result [] c.deref-part-items.ensures.value l c.part-item.is in
+    let here = c.deref-in-loop-part.ensures.value
+    ∙ part_read ps c.deref-part-items.result.now i c.part-item.result [] c.deref-part-items.ensures.value l
+    c.part-item.is in
     let there : i < length (triangle_lists ps) = omega (arith, length-map ps (λ (x : Part). x.items)) in
     let m = c.in_ok-measure.field-0 in
     let says = c.in_ok-measure.ensures in
@@ -65,5 +76,7 @@ loop-part-preserved c =
       solid = is_solid points triangles m.solid says.six_volume says.moment_x says.moment_y says.moment_z;
     } in
     let same : AreMeasures vs (get_or (triangle_lists ps) i []) m =
-    subst (λ (ts : List (List ℕ)). AreMeasures vs ts m) here (subst (λ (ws : List Point). AreMeasures ws triangles m) c.deref.ensures.value are) in
-    zip_one (AreMeasures vs) (triangle_lists ps) i [] c.loop-part.all.items c.push.new.self.items m there c.in_ok-push.ensures.items c.loop-part.invariant same
+    subst (λ (ts : List (List ℕ)). AreMeasures vs ts m) here
+    (subst (λ (ws : List Point). AreMeasures ws triangles m) c.deref.ensures.value are) in
+    zip_one (AreMeasures vs) (triangle_lists ps) i [] c.loop-part.all.items c.push.new.self.items m there
+    c.in_ok-push.ensures.items c.loop-part.invariant same

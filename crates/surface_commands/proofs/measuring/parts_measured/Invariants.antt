@@ -5,4 +5,5 @@ use Rattle.surface_commands.specs.Measure.{AreMeasures}
 use Rattle.surface_commands.proofs.measuring.parts_measured.Given as goal
 
 abbrev pub invariant-loop-part : goal.invariant-loop-part
-invariant-loop-part l = AllZip (AreMeasures l.mesh.vertices.items) (take l.part-index (triangle_lists l.mesh.parts.items)) l.all.items
+invariant-loop-part l = AllZip (AreMeasures l.mesh.vertices.items)
+    (take l.part-index (triangle_lists l.mesh.parts.items)) l.all.items

@@ -5,4 +5,5 @@ use Rattle.surface_commands.proofs.reporting.count_contours.Given as goal
 
 abbrev pub invariant-loop-object : goal.invariant-loop-object
 invariant-loop-object l =
-    l.count + length (contours_of (all_sections (map object_parts (drop l.object-index l.object-items)))) ≡ length (contours_of (all_sections (map object_parts l.object-items)))
+    l.count + length (contours_of (all_sections (map object_parts (drop l.object-index l.object-items))))
+    ≡ length (contours_of (all_sections (map object_parts l.object-items)))

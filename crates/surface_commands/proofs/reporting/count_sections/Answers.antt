@@ -11,10 +11,16 @@ overflow_add-count c =
     let F = c.args.objects.now in
     let items = c.items-object-items.result.now in
     let same = ap (λ (os : List ObjectParts). length (all_sections os)) c.items-object-items.ensures.parts in
-    let next = sections_next items c.loop-object.object-index c.loop-object.count (length c.sections.result.now) (length (all_sections (map object_parts items))) c.object-item.result c.loop-object-test.true c.object-item.is (sym (length-map c.sections.result.now section_parts) ∙ ap length c.sections.ensures.parts) c.loop-object.invariant in
+    let next = sections_next items c.loop-object.object-index c.loop-object.count (length c.sections.result.now)
+    (length (all_sections (map object_parts items))) c.object-item.result c.loop-object-test.true c.object-item.is
+    (sym (length-map c.sections.result.now section_parts) ∙ ap length c.sections.ensures.parts)
+    c.loop-object.invariant in
     omega (arith, next, same, few_sections F c.items-object-items.ensures.accepted.lawful)
 
 pub loop-object-preserved : goal.loop-object-preserved
 loop-object-preserved c =
     let items = c.items-object-items.result.now in
-    sections_next items c.loop-object.object-index c.loop-object.count (length c.sections.result.now) (length (all_sections (map object_parts items))) c.object-item.result c.loop-object-test.true c.object-item.is (sym (length-map c.sections.result.now section_parts) ∙ ap length c.sections.ensures.parts) c.loop-object.invariant
+    sections_next items c.loop-object.object-index c.loop-object.count (length c.sections.result.now)
+    (length (all_sections (map object_parts items))) c.object-item.result c.loop-object-test.true c.object-item.is
+    (sym (length-map c.sections.result.now section_parts) ∙ ap length c.sections.ensures.parts)
+    c.loop-object.invariant

@@ -13,7 +13,8 @@ use Rattle.surface_commands.proofs.reporting.report.Goals as goal
 
 pub returns-in_err-objects-clause-reply : goal.returns-in_err-objects-clause-reply
 returns-in_err-objects-clause-reply g c =
-    no_text report c.args.input.now (g.P.PairSolver.solved_pairs c.args.solver.now) c.from_residual.result c.in_err-objects.field-0.0 c.from_residual.ensures.1 c.in_err-objects.ensures.fault
+    no_text report c.args.input.now (g.P.PairSolver.solved_pairs c.args.solver.now) c.from_residual.result
+    c.in_err-objects.field-0.0 c.from_residual.ensures.1 c.in_err-objects.ensures.fault
 
 pub returns-in_err-built-clause-reply : goal.returns-in_err-built-clause-reply
 returns-in_err-built-clause-reply g c =
@@ -22,7 +23,9 @@ returns-in_err-built-clause-reply g c =
     let after = g.P.PairSolver.solved_pairs c.surface_all.new.solver in
     let out = c.from_residual-in_err-built in
     with_text report c.args.input.now before after out.result F c.in_ok-objects.ensures.text
-    (failed (IsFoundIn F) (IsSurfaceOf F) (Reports [] (all_sections F.objects)) before after out.result c.in_err-built.field-0.0 out.ensures.1 c.in_err-built.ensures.fault c.in_err-built.ensures.uncounted c.in_err-built.ensures.not_less)
+    (failed (IsFoundIn F) (IsSurfaceOf F) (Reports [] (all_sections F.objects)) before after out.result
+    c.in_err-built.field-0.0 out.ensures.1 c.in_err-built.ensures.fault c.in_err-built.ensures.uncounted
+    c.in_err-built.ensures.not_less)
 
 pub returns-clause-reply : goal.returns-clause-reply
 returns-clause-reply g c =
@@ -32,19 +35,31 @@ returns-clause-reply g c =
     let after = g.P.PairSolver.solved_pairs c.surface_all.new.solver in
     with_text report c.args.input.now before after _ F c.in_ok-objects.ensures.text
     (went_on (IsFoundIn F) (IsSurfaceOf F) (Reports [] (all_sections F.objects)) before after _ b
-    (record { is_built = c.in_ok-built.ensures.built; valid = c.in_ok-built.ensures.valid; closed = c.in_ok-built.ensures.closed })
+    (record {
+      is_built = c.in_ok-built.ensures.built;
+      valid = c.in_ok-built.ensures.valid;
+      closed =
+          c.in_ok-built.ensures.closed;
+    })
     (gives (Reports [] (all_sections F.objects) b) before after b.pairs c.in_ok-text.text
     (record {
-      volume = λ o. c.six_volume-volume.ensures.anywhere c.in_ok-built.ensures.closed o ∙ c.six_volume-volume.ensures.value;
-      tells = ap (λ (t : List ℕ). told t b.pairs) (c.in_ok-text.ensures (all_sections F.objects) c.count_sections-sections.ensures c.count_contours-contours.ensures);
+      volume = λ o. c.six_volume-volume.ensures.anywhere c.in_ok-built.ensures.closed o
+          ∙ c.six_volume-volume.ensures.value;
+      tells = ap (λ (t : List ℕ). told t b.pairs)
+          (c.in_ok-text.ensures (all_sections F.objects) c.count_sections-sections.ensures
+          c.count_contours-contours.ensures);
     })
     c.in_ok-built.ensures.counted c.in_ok-built.ensures.not_less))
 
 pub returns-in_err-objects-clause-memory : goal.returns-in_err-objects-clause-memory
-returns-in_err-objects-clause-memory g c = err_is (IsReadMemory Two c.args.input.now) c.from_residual.result c.in_err-objects.field-0.0 c.from_residual.ensures.1 c.in_err-objects.ensures.memory
+returns-in_err-objects-clause-memory g c =
+    err_is (IsReadMemory Two c.args.input.now) c.from_residual.result c.in_err-objects.field-0.0
+    c.from_residual.ensures.1 c.in_err-objects.ensures.memory
 
 pub returns-in_err-built-clause-memory : goal.returns-in_err-built-clause-memory
-returns-in_err-built-clause-memory g c = at_text c.args.input.now c.in_ok-objects.objects c.from_residual-in_err-built.result c.in_ok-objects.ensures.text
+returns-in_err-built-clause-memory g c =
+    at_text c.args.input.now c.in_ok-objects.objects c.from_residual-in_err-built.result c.in_ok-objects.ensures.text
 
 pub returns-in_err-text-clause-memory : goal.returns-in_err-text-clause-memory
-returns-in_err-text-clause-memory g c = at_text c.args.input.now c.in_ok-objects.objects c.from_residual-in_err-text.result c.in_ok-objects.ensures.text
+returns-in_err-text-clause-memory g c =
+    at_text c.args.input.now c.in_ok-objects.objects c.from_residual-in_err-text.result c.in_ok-objects.ensures.text

@@ -14,8 +14,10 @@ returns c all sections contours =
     let measures : string_bytes c.in_ok-measures.measures ≡ second = search rules in
     c.in_ok-extend_from_slice-2.ensures.items
     ∙ ap₂ (λ (x y : List ℕ). x ++ y)
-    (c.in_ok-extend_from_slice.ensures.items ∙ ap₂ (λ (x y : List ℕ). x ++ y) c.in_ok-text.ensures.items (c.as_bytes.ensures.value ∙ sizes))
+    (c.in_ok-extend_from_slice.ensures.items
+    ∙ ap₂ (λ (x y : List ℕ). x ++ y) c.in_ok-text.ensures.items (c.as_bytes.ensures.value ∙ sizes))
     (c.as_bytes-2.ensures.value ∙ measures)
     ∙ append_assoc c.args.head.now first second
     ∙ ap (λ (x : List ℕ). c.args.head.now ++ x)
-    (reported all b c.args.sections c.args.contours c.len-vertices.result c.triangle_count-triangles.result c.args.volume sections contours vertices c.triangle_count-triangles.ensures c.requires.volume)
+    (reported all b c.args.sections c.args.contours c.len-vertices.result c.triangle_count-triangles.result
+    c.args.volume sections contours vertices c.triangle_count-triangles.ensures c.requires.volume)

@@ -7,8 +7,11 @@ use Rattle.surface_commands.proofs.slices.put_loops.Goals as goal
 
 pub loop-cuts-preserved : goal.loop-cuts-preserved
 loop-cuts-preserved c =
-    put_next (λ (v : Vec Cut Global). loop_text v.items) c.args.loops.now c.loop-cuts.cuts-index c.cuts-item.result c.args.out.now.items c.loop-cuts.out.items c.put_loop.new.out.items c.loop-cuts-test.true c.cuts-item.is c.loop-cuts.invariant
+    put_next (λ (v : Vec Cut Global). loop_text v.items) c.args.loops.now c.loop-cuts.cuts-index c.cuts-item.result
+    c.args.out.now.items c.loop-cuts.out.items c.put_loop.new.out.items c.loop-cuts-test.true c.cuts-item.is
+    c.loop-cuts.invariant
     (c.in_ok-put_loop.ensures ∙ ap (λ (xs : List Cut). c.loop-cuts.out.items ++ loop_text xs) c.deref.ensures.value)
 
 pub returns : goal.returns
-returns c = put_all (λ (v : Vec Cut Global). loop_text v.items) c.args.loops.now c.loop-cuts.cuts-index _ _ c.loop-cuts-test.false c.loop-cuts.invariant
+returns c = put_all (λ (v : Vec Cut Global). loop_text v.items) c.args.loops.now c.loop-cuts.cuts-index _ _
+    c.loop-cuts-test.false c.loop-cuts.invariant

@@ -3,4 +3,5 @@ use Rattle.correspondence.specs.Contours.{points_of}
 use Rattle.surface_core.proofs.assembly.add_points.Given as goal
 
 abbrev pub invariant-loop-contour : goal.invariant-loop-contour
-invariant-loop-contour l = l.points.items ≡ l.initial.points.items ++ flat_map points_of (take l.contour-index l.section.contours.items)
+invariant-loop-contour l = l.points.items ≡ l.initial.points.items
+    ++ flat_map points_of (take l.contour-index l.section.contours.items)

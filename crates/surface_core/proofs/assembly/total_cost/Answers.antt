@@ -11,10 +11,12 @@ use Rattle.surface_core.proofs.assembly.total_cost.Goals as goal
 pub cost_of-cost-requires : goal.cost_of-cost-requires
 cost_of-cost-requires c =
     subst (λ (q : GapPair). Solves q.pair c.index-solved-place.result) c.index-pairs-place.is
-    (solves_at c.args.pairs.now c.args.solved.now c.requires.solved c.loop-place.place c.index-pairs-place.result c.index-solved-place.result c.loop-place-test.true c.index-pairs-place.is c.index-solved-place.is)
+    (solves_at c.args.pairs.now c.args.solved.now c.requires.solved c.loop-place.place c.index-pairs-place.result
+    c.index-solved-place.result c.loop-place-test.true c.index-pairs-place.is c.index-solved-place.is)
 
 -- the sum with one more cost
-fit : (s t : ℤ) (i : ℕ) → i < MAX_PAIRS → pos 0 ≤ℤ s → s ≤ℤ pos (i * pair_cost_limit) → pos 0 ≤ℤ t → t ≤ℤ pos pair_cost_limit → to_z w128 (of_z w128 (s +ℤ to_z w128 (of_z w128 t))) ≡ s +ℤ t
+fit : (s t : ℤ) (i : ℕ) → i < MAX_PAIRS → pos 0 ≤ℤ s → s ≤ℤ pos (i * pair_cost_limit) → pos 0 ≤ℤ t
+    → t ≤ℤ pos pair_cost_limit → to_z w128 (of_z w128 (s +ℤ to_z w128 (of_z w128 t))) ≡ s +ℤ t
 fit s t i l a b d e =
     let k : SFits w128 t = omega (arith, ints) in
     let f : SFits w128 (s +ℤ t) = omega (arith, ints) in
@@ -23,7 +25,8 @@ fit s t i l a b d e =
 some : (s t u : ℤ) → u ≡ s +ℤ t → pos 0 ≤ℤ s → pos 0 ≤ℤ t → pos 0 ≤ℤ u
 some s t u e a b = omega (arith, ints)
 
-few : (s t u : ℤ) (i : ℕ) → u ≡ s +ℤ t → s ≤ℤ pos (i * pair_cost_limit) → t ≤ℤ pos pair_cost_limit → u ≤ℤ pos ((i + 1) * pair_cost_limit)
+few : (s t u : ℤ) (i : ℕ) → u ≡ s +ℤ t → s ≤ℤ pos (i * pair_cost_limit) → t ≤ℤ pos pair_cost_limit
+    → u ≤ℤ pos ((i + 1) * pair_cost_limit)
 few s t u i e a b = omega (arith, ints)
 
 pub loop-place-preserved : goal.loop-place-preserved
@@ -38,7 +41,8 @@ loop-place-preserved c =
     let f = fit s t i (omega (arith, c.requires.few, c.loop-place-test.true)) inv.some inv.few cost.some cost.few in
     let l : i < length xs = omega (arith, same_count c.args.pairs.now xs c.requires.solved, c.loop-place-test.true) in
     record {
-      value = cost_step xs i x s (to_z w128 (of_z w128 (s +ℤ to_z w128 (of_z w128 t)))) l c.index-solved-place.is inv.value (f ∙ ap (λ (z : ℤ). s +ℤ z) cost.value);
+      value = cost_step xs i x s (to_z w128 (of_z w128 (s +ℤ to_z w128 (of_z w128 t)))) l c.index-solved-place.is
+          inv.value (f ∙ ap (λ (z : ℤ). s +ℤ z) cost.value);
       some = some s t (to_z w128 (of_z w128 (s +ℤ to_z w128 (of_z w128 t)))) f inv.some cost.some;
       few = few s t (to_z w128 (of_z w128 (s +ℤ to_z w128 (of_z w128 t)))) i f inv.few cost.few;
     }

@@ -5,4 +5,5 @@ use Rattle.surface_core.specs.Marks.{AreSetAt}
 use Rattle.surface_core.proofs.assembly_marks.marks_on.Given as goal
 
 abbrev pub invariant-loop-pair : goal.invariant-loop-pair
-invariant-loop-pair l = AreSetAt l.marks.items l.count (joined_on l.face (map pair_parts (take l.pair-index l.pairs)) l.section)
+invariant-loop-pair l = AreSetAt l.marks.items l.count
+    (joined_on l.face (map pair_parts (take l.pair-index l.pairs)) l.section)

@@ -15,7 +15,10 @@ loop-place-preserved c =
     let one : List RingView = kept (get_or marks k false) (ring_view c.index-rings-place.result) in
     let more = ring_step rings marks k c.index-rings-place.result c.loop-place-test.true c.index-rings-place.is in
     record {
-      triangles = caps_step c.args.face c.args.list.now.triangles.items old.triangles.items new.triangles.items (done (ring_views rings) marks k) one (done (ring_views rings) marks (k + 1)) c.loop-place.invariant.triangles c.in_ok-add_cap.ensures.triangles more;
-      folded = folded_step c.args.list.now.folded old.folded new.folded (done (ring_views rings) marks k) one (done (ring_views rings) marks (k + 1)) c.loop-place.invariant.folded c.in_ok-add_cap.ensures.folded more;
+      triangles = caps_step c.args.face c.args.list.now.triangles.items old.triangles.items new.triangles.items
+          (done (ring_views rings) marks k) one (done (ring_views rings) marks (k + 1)) c.loop-place.invariant.triangles
+          c.in_ok-add_cap.ensures.triangles more;
+      folded = folded_step c.args.list.now.folded old.folded new.folded (done (ring_views rings) marks k) one
+          (done (ring_views rings) marks (k + 1)) c.loop-place.invariant.folded c.in_ok-add_cap.ensures.folded more;
       small = omega (arith, c.loop-place.invariant.small, c.in_ok-add_cap.ensures.small);
     }

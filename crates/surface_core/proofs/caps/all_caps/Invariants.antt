@@ -10,5 +10,6 @@ abbrev pub invariant-loop-place : goal.invariant-loop-place
 invariant-loop-place l = record {
   first : l.first_id ≡ sum_by section_vertices (take l.place l.all);
   count : length l.caps.items ≡ l.place;
-  each : (s : ℕ) (d : CapList) → s < length l.caps.items → AreCapsOf by_contour l.sections (map pair_parts l.pairs) s (get_or l.caps.items s d);
+  each : (s : ℕ) (d : CapList) → s < length l.caps.items
+      → AreCapsOf by_contour l.sections (map pair_parts l.pairs) s (get_or l.caps.items s d);
 }

@@ -4,9 +4,13 @@ use Rattle.std.proofs.lemmas.List.Sorted.{IsPartitionPoint-from_clause, IsPartit
 use Rattle.section_pairs.specs.declared.gap_pairs.GapPair.{GapPair}
 use Rattle.surface_core.proofs.near_pairs.pairs_below.Goals as goal
 
-found : (c : goal.After-partition_point) → IsPartitionPoint (λ (p : GapPair). ltb p.gap c.args.gap ≡ true) (λ (p : GapPair). ltb p.gap c.args.gap ≡ false) c.args.pairs.now c.partition_point.result
+found : (c : goal.After-partition_point)
+    → IsPartitionPoint (λ (p : GapPair). ltb p.gap c.args.gap ≡ true) (λ (p : GapPair). ltb p.gap c.args.gap ≡ false)
+    c.args.pairs.now c.partition_point.result
 found c =
-    IsPartitionPoint-from_clause (λ (p : GapPair). ltb p.gap c.args.gap) c.args.pairs.now c.partition_point.result c.partition_point.ensures.partitioned (IsPartitionedBy-ltb (λ (p : GapPair). p.gap) c.args.pairs.now c.args.gap c.requires.sorted)
+    IsPartitionPoint-from_clause (λ (p : GapPair). ltb p.gap c.args.gap) c.args.pairs.now c.partition_point.result
+    c.partition_point.ensures.partitioned
+    (IsPartitionedBy-ltb (λ (p : GapPair). p.gap) c.args.pairs.now c.args.gap c.requires.sorted)
     (λ a r q k. search rules)
 
 pub returns-clause-below : goal.returns-clause-below

@@ -10,6 +10,11 @@ returns-clause-order c =
     elim (cases_lt end.result begin.result) [
       | inl l ↦
           let p = (item_at c.args.pairs.now end.result (omega (arith, l, begin.ensures.within))).0 in
-          absurd (omega (arith, begin.ensures.below end.result p l, end.ensures.others end.result p (omega arith) (omega (arith, l, begin.ensures.within)), c.requires.order))
+          absurd (omega (
+            arith,
+            begin.ensures.below end.result p l,
+            end.ensures.others end.result p (omega arith) (omega (arith, l, begin.ensures.within)),
+            c.requires.order,
+          ))
       | inr l ↦ l
     ]

@@ -9,20 +9,32 @@ use Rattle.surface_core.proofs.ObjectFacts.{objects_are, few_pairs_in}
 use Rattle.surface_core.proofs.objects.pairs_all.Goals as goal
 
 pub returns-clause-pairs : goal.returns-clause-pairs
-returns-clause-pairs g c = subst (λ (objects : List Parts). IfOk c.pairs_of_each.result (λ v. AllZip ArePairs objects (pair_lists v.items))) (objects_are c.args.objects.now c.items.result.now c.items.ensures.parts c.items.ensures.under) c.pairs_of_each.ensures.pairs
+returns-clause-pairs g c = subst (λ (objects : List Parts).
+    IfOk c.pairs_of_each.result (λ v. AllZip ArePairs objects (pair_lists v.items)))
+    (objects_are c.args.objects.now c.items.result.now c.items.ensures.parts c.items.ensures.under)
+    c.pairs_of_each.ensures.pairs
 
 pub returns-clause-gaps : goal.returns-clause-gaps
-returns-clause-gaps g c = subst (λ (objects : List Parts). IfOk c.pairs_of_each.result (λ v. AllZip LieInGaps objects (pair_lists v.items))) (objects_are c.args.objects.now c.items.result.now c.items.ensures.parts c.items.ensures.under) c.pairs_of_each.ensures.gaps
+returns-clause-gaps g c = subst (λ (objects : List Parts).
+    IfOk c.pairs_of_each.result (λ v. AllZip LieInGaps objects (pair_lists v.items)))
+    (objects_are c.args.objects.now c.items.result.now c.items.ensures.parts c.items.ensures.under)
+    c.pairs_of_each.ensures.gaps
 
 pub returns-clause-few : goal.returns-clause-few
 returns-clause-few g c =
     let F = c.args.objects.now in
     let pairs = returns-clause-pairs g c in
-    ok_then c.pairs_of_each.result (λ v. AreAllPairs F (pair_lists v.items)) (λ v. AreAllPairs F (pair_lists v.items)) (λ v. length (numbered (pair_lists v.items)) ≤ MAX_PAIRS) pairs pairs
+    ok_then c.pairs_of_each.result (λ v. AreAllPairs F (pair_lists v.items)) (λ v. AreAllPairs F (pair_lists v.items))
+    (λ v. length (numbered (pair_lists v.items)) ≤ MAX_PAIRS) pairs pairs
     (λ v h k. few_pairs_in F (pair_lists v.items) c.items.ensures.accepted h)
 
 pub returns-clause-fault : goal.returns-clause-fault
-returns-clause-fault g c = subst (λ (objects : List Parts). IfErr c.pairs_of_each.result (OrNoMemory (IsFoundAmong objects))) (objects_are c.args.objects.now c.items.result.now c.items.ensures.parts c.items.ensures.under) c.pairs_of_each.ensures.fault
+returns-clause-fault g c = subst (λ (objects : List Parts).
+    IfErr c.pairs_of_each.result (OrNoMemory (IsFoundAmong objects)))
+    (objects_are c.args.objects.now c.items.result.now c.items.ensures.parts c.items.ensures.under)
+    c.pairs_of_each.ensures.fault
 
 pub returns-clause-memory : goal.returns-clause-memory
-returns-clause-memory g c = subst (λ (objects : List Parts). IfErr c.pairs_of_each.result (IsLateAmong objects)) (objects_are c.args.objects.now c.items.result.now c.items.ensures.parts c.items.ensures.under) c.pairs_of_each.ensures.memory
+returns-clause-memory g c = subst (λ (objects : List Parts). IfErr c.pairs_of_each.result (IsLateAmong objects))
+    (objects_are c.args.objects.now c.items.result.now c.items.ensures.parts c.items.ensures.under)
+    c.pairs_of_each.ensures.memory

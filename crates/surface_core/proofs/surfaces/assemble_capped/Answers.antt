@@ -20,7 +20,12 @@ use Rattle.surface_core.proofs.surfaces.assemble_capped.Goals as goal
 few : (g : _) (c : goal.In_ok-push g) → length c.args.pairs.now ≤ MAX_PAIRS
 few g c =
     let S = c.args.sections.now in
-    omega (arith, few_pairs S (map pair_parts c.args.pairs.now) (are_few S c.sections.result.now c.sections.ensures.kept c.sections.ensures.data) c.requires.pairs, length-map c.args.pairs.now pair_parts)
+    omega (
+      arith,
+      few_pairs S (map pair_parts c.args.pairs.now)
+          (are_few S c.sections.result.now c.sections.ensures.kept c.sections.ensures.data) c.requires.pairs,
+      length-map c.args.pairs.now pair_parts,
+    )
 
 pub overflow_cast-result : goal.overflow_cast-result
 overflow_cast-result g c = omega (arith, few g c)
@@ -29,12 +34,17 @@ pub total_cost-requires-clause-few : goal.total_cost-requires-clause-few
 total_cost-requires-clause-few g c = few g c
 
 -- the one part
-part : (g : _) (c : goal.After-total_cost g) → triangle_lists c.push.new.self.items ≡ capped_triangles g.C.CapRule.capping c.args.sections.now (map pair_parts c.args.pairs.now) c.args.solved.now ∷ []
+part : (g : _) (c : goal.After-total_cost g)
+    → triangle_lists c.push.new.self.items
+    ≡ capped_triangles g.C.CapRule.capping c.args.sections.now (map pair_parts c.args.pairs.now) c.args.solved.now ∷ []
 part g c =
-    ap triangle_lists (c.in_ok-push.ensures.items ∙ ap (λ (l : List (Vec (List ℕ) Global)). l ++ c.in_ok-triangles.field-0.triangles ∷ []) c.new-parts.ensures.items)
+    ap triangle_lists (c.in_ok-push.ensures.items
+    ∙ ap (λ (l : List (Vec (List ℕ) Global)). l ++ c.in_ok-triangles.field-0.triangles ∷ [])
+    c.new-parts.ensures.items)
     ∙ ap (λ (ts : List (List ℕ)). ts ∷ []) c.in_ok-triangles.ensures.triangles
 
-whole : (g : _) (c : goal.After-total_cost g) → IsWholeSurface g.C.CapRule.capping c.args.sections.now (map pair_parts c.args.pairs.now) c.args.solved.now
+whole : (g : _) (c : goal.After-total_cost g)
+    → IsWholeSurface g.C.CapRule.capping c.args.sections.now (map pair_parts c.args.pairs.now) c.args.solved.now
 whole g c = c.requires.caps.close c.args.solved.now c.requires.solved
 
 pub returns-clause-surface : goal.returns-clause-surface
@@ -48,7 +58,8 @@ returns-clause-valid g c =
     let S = c.args.sections.now in
     let made = whole g c in
     let few = are_few S c.sections.result.now c.sections.ensures.kept c.sections.ensures.data in
-    valid_from S c.sections.result.now c.in_ok-vertices.vertices.items (triangle_lists c.push.new.self.items) _ c.sections.ensures.kept c.sections.ensures.data c.in_ok-vertices.ensures (part g c) made.some
+    valid_from S c.sections.result.now c.in_ok-vertices.vertices.items (triangle_lists c.push.new.self.items) _
+    c.sections.ensures.kept c.sections.ensures.data c.in_ok-vertices.ensures (part g c) made.some
     (omega (arith, made.few, few.vertices, few.contours, same_counts S.sections)) made.known
 
 pub returns-clause-closed : goal.returns-clause-closed
@@ -80,11 +91,18 @@ returns-clause-bounded g c =
     let cost : to_z w128 (of_z w128 c.total_cost.result) ≡ c.total_cost.result = to_z-of_z fits in
     let parts = part g c in
     record {
-      vertices = ap length (c.in_ok-vertices.ensures ∙ all_points S c.sections.result.now c.sections.ensures.data) ∙ points_count S;
+      vertices = ap length (c.in_ok-vertices.ensures ∙ all_points S c.sections.result.now c.sections.ensures.data)
+          ∙ points_count S;
       one_part = sym (length-map c.push.new.self.items _) ∙ ap length parts;
-      triangles = omega (arith, ap (λ (ps : List (List (List ℕ))). sum_by length ps) parts, sum_by-cons {X = List (List ℕ)} length ts [], (whole g c).few);
+      triangles = omega (
+        arith,
+        ap (λ (ps : List (List (List ℕ))). sum_by length ps) parts,
+        sum_by-cons {X = List (List ℕ)} length ts [],
+        (whole g c).few,
+      );
       folded = omega (arith, c.in_ok-triangles.ensures.folded, (whole g c).few_folded);
       pairs = omega (arith, count, pairs_within S ps c.requires.pairs, same_counts S.sections);
       some_cost = subst (λ (z : ℤ). pos 0 ≤ℤ z) (sym cost) c.total_cost.ensures.some;
-      few_cost = subst (λ (z : ℤ). z ≤ℤ pos (length c.args.pairs.now * pair_cost_limit)) (sym cost) c.total_cost.ensures.few_cost;
+      few_cost = subst (λ (z : ℤ). z ≤ℤ pos (length c.args.pairs.now * pair_cost_limit)) (sym cost)
+          c.total_cost.ensures.few_cost;
     }

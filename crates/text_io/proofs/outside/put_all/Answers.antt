@@ -19,7 +19,8 @@ loop-rest-preserved g c =
         n + m,
         omega (arith, length-drop n bytes),
         c.split_at.ensures.back ∙ ap (drop m) rest-is ∙ drop-drop m n bytes,
-        subst (Appends (g.K.Sink.held c.args.sink.now) (g.K.Sink.held c.write.new.self)) (ap (λ r. take n bytes ++ take m r) rest-is ∙ sym (take_both n m bytes))
+        subst (Appends (g.K.Sink.held c.args.sink.now) (g.K.Sink.held c.write.new.self))
+            (ap (λ r. take n bytes ++ take m r) rest-is ∙ sym (take_both n m bytes))
             (Appends-more _ _ _ _ _ done.3 wrote.2),
       );
     }

@@ -10,5 +10,10 @@ returns-then-value-gt-MAX_NUMBER c =
     let ds = c.args.digits.now in
     let next = 10 * c.loop-b.value + (get_or ds c.loop-b.b-index 0 - 48) in
     let large : MAX_NUMBER < value_after 0 ds =
-    omega (arith, c.loop-b.invariant.same, value_after-more c.loop-b.value ds c.loop-b.b-index c.loop-b-test.true, value_after-ge next (drop (c.loop-b.b-index + 1) ds)) in
+    omega (
+      arith,
+      c.loop-b.invariant.same,
+      value_after-more c.loop-b.value ds c.loop-b.b-index c.loop-b-test.true,
+      value_after-ge next (drop (c.loop-b.b-index + 1) ds),
+    ) in
     grind (arith, nat_tests)

@@ -19,10 +19,12 @@ returns-clause-none c =
 pub returns-clause-found : goal.returns-clause-found
 returns-clause-found c =
     let e : position (λ b. not (is_blank b)) (drop c.args.at c.args.line.now) ≡ Some c.in-Some.skipped = cc in
-    let rest : c.split_at-2.result.1.now ≡ drop c.in-Some.skipped (drop c.args.at c.args.line.now) = c.split_at-2.ensures.back ∙ ap (drop c.in-Some.skipped) c.split_at.ensures.back in
+    let rest : c.split_at-2.result.1.now ≡ drop c.in-Some.skipped (drop c.args.at c.args.line.now) =
+    c.split_at-2.ensures.back ∙ ap (drop c.in-Some.skipped) c.split_at.ensures.back in
     let h = position_default is_blank c.split_at-2.result.1.now in
     let m : c.unwrap_or-length.result ≡ position_or_len is_blank c.split_at-2.result.1.now = cc in
-    word_found c.args.line.now c.args.at c.in-Some.skipped c.unwrap_or-length.result c.requires e (m ∙ ap (position_or_len is_blank) rest)
+    word_found c.args.line.now c.args.at c.in-Some.skipped c.unwrap_or-length.result c.requires e
+    (m ∙ ap (position_or_len is_blank) rest)
 
 pub returns-in_default-clause-over : goal.returns-in_default-clause-over
 returns-in_default-clause-over c =

@@ -8,6 +8,8 @@ returns c =
     let ts = c.args.triangles.now in
     let there = c.in_ok-there.ensures in
     let back = c.in_ok-back.ensures in (
-      λ t. closed_from_counts ts c.requires (λ k. ap (count_by (λ n. n == k)) (sym there) ∙ c.have_same.ensures.0 t k ∙ ap (count_by (λ n. n == k)) back),
-      λ closed. c.have_same.ensures.1 (λ k. ap (count_by (λ n. n == k)) there ∙ counts_from_closed ts c.requires closed k ∙ ap (count_by (λ n. n == k)) (sym back)),
+      λ t. closed_from_counts ts c.requires
+          (λ k. ap (count_by (λ n. n == k)) (sym there) ∙ c.have_same.ensures.0 t k ∙ ap (count_by (λ n. n == k)) back),
+      λ closed. c.have_same.ensures.1 (λ k. ap (count_by (λ n. n == k)) there
+          ∙ counts_from_closed ts c.requires closed k ∙ ap (count_by (λ n. n == k)) (sym back)),
     )

@@ -5,4 +5,5 @@ use Rattle.triangle_meshes.specs.EdgeNumbers.{reverse_number}
 use Rattle.triangle_meshes.proofs.balance.reverses.Given as goal
 
 abbrev pub invariant-loop-triangle : goal.invariant-loop-triangle
-invariant-loop-triangle l = l.numbers.items ≡ map reverse_number (flat_map ring_edges (take l.triangle-index l.triangles))
+invariant-loop-triangle l = l.numbers.items
+    ≡ map reverse_number (flat_map ring_edges (take l.triangle-index l.triangles))

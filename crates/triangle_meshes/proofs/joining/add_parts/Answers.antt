@@ -11,6 +11,9 @@ pub raised_part-requires : goal.raised_part-requires
 raised_part-requires c =
     let ps = c.args.parts.now in
     let i = c.loop-part.part-index in
-    let here = c.deref.ensures.value ∙ part_read ps ps i c.part-item.result [] refl c.loop-part-test.true c.part-item.is in
-    let there : i < length (triangle_lists ps) = omega (arith, c.loop-part-test.true, length-map ps (λ (x : Part). x.items)) in
-    subst (AllByRecursion (IsBelow c.args.by)) (sym here) (All-from_recursion (AllByRecursion (IsBelow c.args.by)) (triangle_lists ps) c.requires i [] there)
+    let here = c.deref.ensures.value ∙ part_read ps ps i c.part-item.result [] refl c.loop-part-test.true c.part-item.is
+    in
+    let there : i < length (triangle_lists ps) =
+    omega (arith, c.loop-part-test.true, length-map ps (λ (x : Part). x.items)) in
+    subst (AllByRecursion (IsBelow c.args.by)) (sym here)
+    (All-from_recursion (AllByRecursion (IsBelow c.args.by)) (triangle_lists ps) c.requires i [] there)

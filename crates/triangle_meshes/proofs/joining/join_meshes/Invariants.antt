@@ -6,6 +6,9 @@ use Rattle.triangle_meshes.proofs.joining.join_meshes.Given as goal
 
 abbrev pub invariant-loop-mesh : goal.invariant-loop-mesh
 invariant-loop-mesh l = record {
-  vertices : l.vertices.items ++ flat_map (λ (s : Surface). s.vertices) (map surface_of (drop l.mesh-index l.meshes)) ≡ flat_map (λ (s : Surface). s.vertices) (map surface_of l.meshes);
-  parts : triangle_lists l.parts.items ++ joined_parts (length l.vertices.items) (map surface_of (drop l.mesh-index l.meshes)) ≡ joined_parts 0 (map surface_of l.meshes);
+  vertices : l.vertices.items ++ flat_map (λ (s : Surface). s.vertices) (map surface_of (drop l.mesh-index l.meshes))
+      ≡ flat_map (λ (s : Surface). s.vertices) (map surface_of l.meshes);
+  parts : triangle_lists l.parts.items
+      ++ joined_parts (length l.vertices.items) (map surface_of (drop l.mesh-index l.meshes))
+      ≡ joined_parts 0 (map surface_of l.meshes);
 }

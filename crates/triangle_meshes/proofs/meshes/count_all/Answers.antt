@@ -7,6 +7,11 @@ loop-triangle-preserved c =
     let ts = c.args.triangles.now in
     let i = c.loop-triangle.triangle-index in
     record {
-      count = omega (arith, c.loop-triangle.invariant.count, c.count_in-count.ensures.value, count_more ts i c.args.u c.args.v c.loop-triangle-test.true (c.told-triangles i c.loop-triangle-test.true));
+      count = omega (
+        arith,
+        c.loop-triangle.invariant.count,
+        c.count_in-count.ensures.value,
+        count_more ts i c.args.u c.args.v c.loop-triangle-test.true (c.told-triangles i c.loop-triangle-test.true),
+      );
       bound = omega arith;
     }

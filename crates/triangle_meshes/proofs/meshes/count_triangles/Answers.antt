@@ -11,4 +11,9 @@ loop-part-preserved c =
     let i = c.loop-part.part-index in
     let here = part_read ps ps i c.part-item.result [] refl c.loop-part-test.true c.part-item.is in
     let there : i < length (triangle_lists ps) = omega (arith, length-map ps (λ (x : Part). x.items)) in
-    omega (arith, c.loop-part.invariant, c.len-count.ensures ∙ c.part-item.result.ok.0 ∙ ap length here, sum_by_more length (triangle_lists ps) i [] there)
+    omega (
+      arith,
+      c.loop-part.invariant,
+      c.len-count.ensures ∙ c.part-item.result.ok.0 ∙ ap length here,
+      sum_by_more length (triangle_lists ps) i [] there,
+    )

@@ -13,7 +13,11 @@ count_all-requires c =
     let ps = c.args.mesh.now.parts.items in
     let i = c.args.part in
     let l : i < length ps = omega (arith, length-map ps (λ (x : Part). x.items)) in
-    omega (arith, ap length (c.deref.ensures.value ∙ part_read ps ps i c.index.result.now [] refl l c.index.ensures), few_in_part ps i MAX_MESH_TRIANGLES l c.requires.valid.few_triangles)
+    omega (
+      arith,
+      ap length (c.deref.ensures.value ∙ part_read ps ps i c.index.result.now [] refl l c.index.ensures),
+      few_in_part ps i MAX_MESH_TRIANGLES l c.requires.valid.few_triangles,
+    )
 
 pub returns : goal.returns
 returns c =
@@ -21,4 +25,6 @@ returns c =
     let i = c.args.part in
     let l : i < length ps = omega (arith, length-map ps (λ (x : Part). x.items)) in
     let here = c.deref.ensures.value ∙ part_read ps ps i c.index.result.now [] refl l c.index.ensures in
-    subst (λ o. IfSome o (λ t. c.count_all.result ≡ edge_count t c.args.u c.args.v)) (sym (slice_get-get_or (triangle_lists ps) i [] c.requires.part)) (c.count_all.ensures ∙ ap (λ t. edge_count t c.args.u c.args.v) here)
+    subst (λ o. IfSome o (λ t. c.count_all.result ≡ edge_count t c.args.u c.args.v))
+    (sym (slice_get-get_or (triangle_lists ps) i [] c.requires.part))
+    (c.count_all.ensures ∙ ap (λ t. edge_count t c.args.u c.args.v) here)

@@ -8,6 +8,7 @@ abbrev pub invariant-loop-span : goal.invariant-loop-span
 invariant-loop-span l = record {
   can : (goal.iterator-loop-span).can_next l.span-iterator;
   finite : (goal.iterator-loop-span).is_finite l.span-iterator;
-  tiles : l.triangles.items ++ map (λ s. tile l.pair.low_ids l.pair.high_ids s.row s.col s.step) l.span-iterator ≡ l.initial.triangles.items ++ tiles l.pair.low_ids l.pair.high_ids l.tiling.row 0 l.tiling.word.items;
+  tiles : l.triangles.items ++ map (λ s. tile l.pair.low_ids l.pair.high_ids s.row s.col s.step) l.span-iterator
+      ≡ l.initial.triangles.items ++ tiles l.pair.low_ids l.pair.high_ids l.tiling.row 0 l.tiling.word.items;
   spans : All (IsOf (rows l.pair) (cols l.pair)) l.span-iterator;
 }

@@ -13,11 +13,13 @@ returns-in-V c =
     let low = c.args.low.now in
     let high = c.args.high.now in
     let s = c.args.span in
-    three _ _ _ _ _ _ (read low s.row c.requires.row) (ap (λ (x : ℕ). get_or low x 0) c.next_place.ensures.value) (read high s.col c.requires.col) ∙ ap (tile low high s.row s.col) (sym c.in-V.is)
+    three _ _ _ _ _ _ (read low s.row c.requires.row) (ap (λ (x : ℕ). get_or low x 0) c.next_place.ensures.value)
+    (read high s.col c.requires.col) ∙ ap (tile low high s.row s.col) (sym c.in-V.is)
 
 pub returns-in-H : goal.returns-in-H
 returns-in-H c =
     let low = c.args.low.now in
     let high = c.args.high.now in
     let s = c.args.span in
-    three _ _ _ _ _ _ (ap (λ (x : ℕ). get_or high x 0) c.next_place-in-H.ensures.value) (read high s.col c.requires.col) (read low s.row c.requires.row) ∙ ap (tile low high s.row s.col) (sym c.in-H.is)
+    three _ _ _ _ _ _ (ap (λ (x : ℕ). get_or high x 0) c.next_place-in-H.ensures.value) (read high s.col c.requires.col)
+    (read low s.row c.requires.row) ∙ ap (tile low high s.row s.col) (sym c.in-H.is)

@@ -10,6 +10,8 @@ returns-clause-value c =
     let a = c.args.a in
     passed c.determinant.result (omega (arith, c.determinant.ensures.range))
     ∙ c.determinant.ensures.value
-    ∙ ap (λ (p : Point). determinant p (point_of c.seen_from-2.result) (point_of c.seen_from-3.result)) c.seen_from.ensures.value
-    ∙ ap (λ (p : Point). determinant (seen_from a c.args.b) p (point_of c.seen_from-3.result)) c.seen_from-2.ensures.value
+    ∙ ap (λ (p : Point). determinant p (point_of c.seen_from-2.result) (point_of c.seen_from-3.result))
+    c.seen_from.ensures.value
+    ∙ ap (λ (p : Point). determinant (seen_from a c.args.b) p (point_of c.seen_from-3.result))
+    c.seen_from-2.ensures.value
     ∙ ap (λ (p : Point). determinant (seen_from a c.args.b) (seen_from a c.args.c) p) c.seen_from-3.ensures.value

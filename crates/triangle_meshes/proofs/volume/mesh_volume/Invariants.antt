@@ -11,5 +11,6 @@ abbrev pub invariant-loop-part : goal.invariant-loop-part
 invariant-loop-part l = record {
   sum : l.sum ≡ signed_sum (part_volume l.vertices l.about) (take l.part-index (triangle_lists l.parts));
   bound : unsigned_abs l.sum ≤ sum_by length (take l.part-index (triangle_lists l.parts)) * (48 * 10 ^ 18);
-  anywhere : All IsClosed (triangle_lists l.parts) → (o : Point) → signed_sum (part_volume l.vertices o) (take l.part-index (triangle_lists l.parts)) ≡ l.sum;
+  anywhere : All IsClosed (triangle_lists l.parts) → (o : Point)
+      → signed_sum (part_volume l.vertices o) (take l.part-index (triangle_lists l.parts)) ≡ l.sum;
 }

@@ -14,6 +14,7 @@ returns-clause-anywhere c =
     let parts = c.deref-2.ensures.value in
     let fits : SFits w128 c.mesh_volume.result = search rules in
     λ closed o.
-    ap₂ (λ (vs : List Point) (ps : List Part). signed_sum (part_volume vs o) (triangle_lists ps)) (sym vertices) (sym parts)
+    ap₂ (λ (vs : List Point) (ps : List Part). signed_sum (part_volume vs o) (triangle_lists ps)) (sym vertices)
+    (sym parts)
     ∙ c.mesh_volume.ensures.anywhere (subst (λ (ps : List Part). All IsClosed (triangle_lists ps)) (sym parts) closed) o
     ∙ sym (to_z-of_z fits)

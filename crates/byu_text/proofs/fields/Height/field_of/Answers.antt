@@ -11,6 +11,8 @@ returns c =
     let back = to_z-of_z c.ranges.value in
     let same : height.value ≡ c.args.value = elim c.if-value-self.branch [
       | then-value-self w ↦ ap (λ (h : Height). h.value) w.self-is ∙ w.new.ensures ∙ back
-      | else-value-self w ↦ sym (passed height.value height.in_range) ∙ ap (λ (h : Height). to_z w32 (of_z w32 h.value)) w.self-is ∙ sym (ap (to_z w32) w.if-value-self.false) ∙ back
+      | else-value-self w ↦ sym (passed height.value height.in_range)
+          ∙ ap (λ (h : Height). to_z w32 (of_z w32 h.value)) w.self-is ∙ sym (ap (to_z w32) w.if-value-self.false)
+          ∙ back
     ] in
     height.made ∙ ap coordinate_field same

@@ -17,6 +17,7 @@ returns-clause-block c =
       some = some;
       within = within;
       enclosed = with_end (λ k. LiesWithin bounds (around ring k)) begin end
-          (λ k from to. c.with-bounds.ensures.kept (around ring k) (within_part c.of.result ring begin end within c.of.ensures k from to))
+          (λ k from to. c.with-bounds.ensures.kept (around ring k)
+          (within_part c.of.result ring begin end within c.of.ensures k from to))
           (subst (LiesWithin bounds) (c.edge_end.ensures.value ∙ ap (around ring) last) c.with-bounds.ensures.added);
     }

@@ -17,11 +17,14 @@ pub loop-place-preserved : goal.loop-place-preserved
 loop-place-preserved c =
     let contours = map points_of c.args.contours.now in
     let place = c.loop-place.place in
-    let room : place - c.args.begin < length c.loop-place.each = omega (arith, c.loop-place.invariant.size, c.loop-place-test.true, c.min-end.ensures) in
+    let room : place - c.args.begin < length c.loop-place.each =
+    omega (arith, c.loop-place.invariant.size, c.loop-place-test.true, c.min-end.ensures) in
     record {
       size = length-set c.loop-place.each (place - c.args.begin) c.bounds_at-one.result ∙ c.loop-place.invariant.size;
-      enclosed = all_more contours c.loop-place.bounds c.bounds_at-one.result c.and-bounds.result c.args.begin place c.and-bounds.ensures.one c.and-bounds.ensures.other c.loop-place.invariant.enclosed c.bounds_at-one.ensures;
-      each = each_more contours c.loop-place.each c.args.begin place c.bounds_at-one.result (omega arith) room c.loop-place.invariant.each c.bounds_at-one.ensures;
+      enclosed = all_more contours c.loop-place.bounds c.bounds_at-one.result c.and-bounds.result c.args.begin place
+          c.and-bounds.ensures.one c.and-bounds.ensures.other c.loop-place.invariant.enclosed c.bounds_at-one.ensures;
+      each = each_more contours c.loop-place.each c.args.begin place c.bounds_at-one.result (omega arith) room
+          c.loop-place.invariant.each c.bounds_at-one.ensures;
     }
 
 pub returns-clause-group : goal.returns-clause-group

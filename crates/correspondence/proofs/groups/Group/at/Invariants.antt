@@ -9,5 +9,6 @@ abbrev pub invariant-loop-place : goal.invariant-loop-place
 invariant-loop-place l = record {
   size : length l.each ≡ GROUP;
   enclosed : (k : ℕ) → l.begin ≤ k → k < l.place → Encloses l.bounds (contour_at (map points_of l.contours) k);
-  each : (k : ℕ) (d : Bounds) → l.begin ≤ k → k < l.place → Encloses (slice_index_or l.each (k - l.begin) d) (contour_at (map points_of l.contours) k);
+  each : (k : ℕ) (d : Bounds) → l.begin ≤ k → k < l.place
+      → Encloses (slice_index_or l.each (k - l.begin) d) (contour_at (map points_of l.contours) k);
 }

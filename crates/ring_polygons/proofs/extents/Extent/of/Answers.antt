@@ -10,8 +10,10 @@ pub loop-p-preserved : goal.loop-p-preserved
 loop-p-preserved c =
     let points = c.args.points.now in
     let extent = c.with-extent.result in
-    let here = λ (d : Point). subst (IsEnclosed extent) (get_or_default points c.loop-p.p-index origin d c.loop-p-test.true) c.with-extent.ensures.added in
+    let here = λ (d : Point). subst (IsEnclosed extent)
+    (get_or_default points c.loop-p.p-index origin d c.loop-p-test.true) c.with-extent.ensures.added in
     record {
       extent = c.with-extent.ensures.extent;
-      enclosed = λ k d l. below_more (λ (k : ℕ). (d : Point) → IsEnclosed extent (slice_index_or points k d)) c.loop-p.p-index (λ k l d. c.with-extent.ensures.kept _ (c.loop-p.invariant.enclosed k d l)) here k l d;
+      enclosed = λ k d l. below_more (λ (k : ℕ). (d : Point) → IsEnclosed extent (slice_index_or points k d))
+          c.loop-p.p-index (λ k l d. c.with-extent.ensures.kept _ (c.loop-p.invariant.enclosed k d l)) here k l d;
     }

@@ -7,7 +7,8 @@ pub returns-clause-no_more : goal.returns-clause-no_more
 unfolding square
 returns-clause-no_more c w h =
     let passed = ap (λ (x : ℤ). unsigned_abs (x -ℤ w)) (passed_i32 c.args.v c.requires.coordinate) in
-    let no_more : unsigned_abs c.gap-gap.result ≤ unsigned_abs (c.args.v -ℤ w) = omega (arith, passed, c.gap-gap.ensures.no_more w h) in
+    let no_more : unsigned_abs c.gap-gap.result ≤ unsigned_abs (c.args.v -ℤ w) =
+    omega (arith, passed, c.gap-gap.ensures.no_more w h) in
     omega (arith, squared_i64 c.gap-gap.result c.gap-gap.ensures.range, mul-le-mul no_more no_more)
 
 pub returns-clause-range : goal.returns-clause-range

@@ -12,4 +12,5 @@ returns-clause-costs c =
     let ex : to_z w64 (of_z w64 (at_row s.us.now c.args.col)) ≡ at_row s.us.now c.args.col = omega (arith, ints, u) in
     let ey : to_z w64 (of_z w64 (at_row s.vs.now c.args.col)) ≡ at_row s.vs.now c.args.col = omega (arith, ints, v) in
     let er : to_z w64 (of_z w64 s.rise) ≡ s.rise = omega (arith, ints, s.rises, s.low) in
-    rw (ex, ey, er) (span_columns s.xs.now s.ys.now s.us.now s.vs.now s.rise c.args.col s.rows_same s.xs_fit s.ys_fit u v s.rises s.low)
+    rw (ex, ey, er) (span_columns s.xs.now s.ys.now s.us.now s.vs.now s.rise c.args.col s.rows_same s.xs_fit s.ys_fit u
+    v s.rises s.low)

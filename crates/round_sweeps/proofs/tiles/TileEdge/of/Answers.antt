@@ -10,4 +10,5 @@ returns c =
     let e = c.of-edge.result in
     let z : to_z w32 (of_z w32 c.args.height) ≡ c.args.height = passed_i32 c.args.height c.requires.height in
     let h = subst (λ (k : ℤ). IsEdge e c.args.a c.args.b k) z c.of-edge.ensures in
-    edge_counted e _ c.args.a c.args.b c.args.height h (omega (arith, ints, h.x)) (omega (arith, ints, h.y)) (passed_i64 e.turn h.turn) c.counted_upright-upright.ensures.less c.counted_upright-upright.ensures.most
+    edge_counted e _ c.args.a c.args.b c.args.height h (omega (arith, ints, h.x)) (omega (arith, ints, h.y))
+    (passed_i64 e.turn h.turn) c.counted_upright-upright.ensures.less c.counted_upright-upright.ensures.most

@@ -21,7 +21,8 @@ invariant_of-result g c =
     let t = c.in_first_round-turned.result in
     let u = c.row_before-above.result in
     let below : t < rows p = omega (arith, c.in_first_round-turned.ensures.within, m) in
-    let same : (k : ℕ) (s : Step) → arcs p c.args.row k s ≡ arcs p t k s = λ k s. elim c.in_first_round-turned.ensures.same [
+    let same : (k : ℕ) (s : Step) → arcs p c.args.row k s ≡ arcs p t k s =
+    λ k s. elim c.in_first_round-turned.ensures.same [
       | inl e ↦ ap (λ (r : ℕ). arcs p r k s) e
       | inr e ↦ ap (λ (r : ℕ). arcs p r k s) (e ∙ ap (λ (r : ℕ). t + r) m) ∙ (arcs-periodic p).row t k s
     ] in
@@ -32,19 +33,31 @@ invariant_of-result g c =
     ] in
     let one : (k : ℕ) → 1 + k ≡ k + 1 = λ k. omega arith in
     let zero : (k : ℕ) → 0 + k ≡ k = λ k. omega arith in
-    let downs = row_part value b (λ (r k : ℕ). arcs p r k V) (rows p) (w + 1) t 0 (w + 1) (t * (w + 1)) (t * (w + 1) + (w + 1)) c.self.inside.downs.now below (omega arith) (omega arith) (omega arith)
-    (known.by_v.count ∙ ap (λ (k : ℕ). rows p * (k + 1)) (sym n)) (subst (λ (s : ℕ). AreFirstCosts b (λ (r k : ℕ). arcs p r k V) (s + 1) (map value c.self.inside.downs.now)) (sym n) known.by_v.first) in
+    let downs = row_part value b (λ (r k : ℕ). arcs p r k V) (rows p) (w + 1) t 0 (w + 1) (t * (w + 1))
+    (t * (w + 1) + (w + 1)) c.self.inside.downs.now below (omega arith) (omega arith) (omega arith)
+    (known.by_v.count ∙ ap (λ (k : ℕ). rows p * (k + 1)) (sym n))
+    (subst (λ (s : ℕ). AreFirstCosts b (λ (r k : ℕ). arcs p r k V) (s + 1) (map value c.self.inside.downs.now))
+    (sym n) known.by_v.first) in
     let rights : IsPart value b (λ (k : ℕ). arcs p t k H) 0 w c.match-self.rights.now = elim c.match-self.branch [
-      | in-Some z ↦ (let all : AreRights b p (map value z.in-Some.rights.now) = subst (λ o. AreRightsOf b p (option_map (λ v. map value v.now) o)) z.in-Some.is known.by_h in
-          let part = row_part value b (λ (r k : ℕ). arcs p r k H) (rows p) w t 0 w (t * w) (t * w + w) z.in-Some.rights.now below (omega arith) refl (omega arith)
-          (all.count ∙ ap (λ (k : ℕ). rows p * k) (sym n)) (subst (λ (s : ℕ). AreFirstCosts b (λ (r k : ℕ). arcs p r k H) s (map value z.in-Some.rights.now)) (sym n) all.first) in
+      | in-Some z ↦ (let all : AreRights b p (map value z.in-Some.rights.now) =
+          subst (λ o. AreRightsOf b p (option_map (λ v. map value v.now) o)) z.in-Some.is known.by_h in
+          let part = row_part value b (λ (r k : ℕ). arcs p r k H) (rows p) w t 0 w (t * w) (t * w + w)
+          z.in-Some.rights.now below (omega arith) refl (omega arith)
+          (all.count ∙ ap (λ (k : ℕ). rows p * k) (sym n))
+          (subst (λ (s : ℕ). AreFirstCosts b (λ (r k : ℕ). arcs p r k H) s (map value z.in-Some.rights.now)) (sym n)
+          all.first) in
           subst (λ r. IsPart value b (λ (k : ℕ). arcs p t k H) 0 w r.now) (sym z.rights-is) part)
-      | in-None z ↦ (let same-place : IsByPlace p = subst (λ o. AreRightsOf b p (option_map (λ v. map value v.now) o)) z.in-None.is known.by_h in
-          let part = row_part value b (λ (r k : ℕ). arcs p r k V) (rows p) (w + 1) u 1 w (u * (w + 1) + 1) (u * (w + 1) + (w + 1)) c.self.inside.downs.now above refl refl (omega arith)
-          (known.by_v.count ∙ ap (λ (k : ℕ). rows p * (k + 1)) (sym n)) (subst (λ (s : ℕ). AreFirstCosts b (λ (r k : ℕ). arcs p r k V) (s + 1) (map value c.self.inside.downs.now)) (sym n) known.by_v.first) in
+      | in-None z ↦ (let same-place : IsByPlace p =
+          subst (λ o. AreRightsOf b p (option_map (λ v. map value v.now) o)) z.in-None.is known.by_h in
+          let part = row_part value b (λ (r k : ℕ). arcs p r k V) (rows p) (w + 1) u 1 w (u * (w + 1) + 1)
+          (u * (w + 1) + (w + 1)) c.self.inside.downs.now above refl refl (omega arith)
+          (known.by_v.count ∙ ap (λ (k : ℕ). rows p * (k + 1)) (sym n))
+          (subst (λ (s : ℕ). AreFirstCosts b (λ (r k : ℕ). arcs p r k V) (s + 1)
+          (map value c.self.inside.downs.now)) (sym n) known.by_v.first) in
           subst (λ r. IsPart value b (λ (k : ℕ). arcs p t k H) 0 w r.now) (sym z.rights-is) (record {
             size = part.size;
-            are = λ k lt. part.are k lt ∙ ap (λ (i : ℕ). arcs p u i V) (one k) ∙ same-place u k ∙ next k H ∙ ap (λ (i : ℕ). arcs p t i H) (sym (zero k));
+            are = λ k lt. part.are k lt ∙ ap (λ (i : ℕ). arcs p u i V) (one k) ∙ same-place u k ∙ next k H
+                ∙ ap (λ (i : ℕ). arcs p t i H) (sym (zero k));
             small = part.small;
           }))
     ] in

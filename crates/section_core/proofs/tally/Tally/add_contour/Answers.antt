@@ -9,5 +9,6 @@ returns-in-Ok-clause-added c f t apart =
     let ks : List (List ℕ) = c.args.self.now.names.keys in
     let new : list_any (same c.args.name.now) ks ≡ false = ap (list_any (same c.args.name.now)) t.names ∙ apart in
     let keys : c.insert.new.self.keys ≡ ks ++ c.args.name.now ∷ [] =
-    c.in-Ok.ensures.keys ∙ ap (λ (v : List ℕ). cond (list_any (same v) ks) ks (ks ++ v ∷ [])) c.copy.ensures ∙ insert_new ks c.args.name.now new in
+    c.in-Ok.ensures.keys ∙ ap (λ (v : List ℕ). cond (list_any (same v) ks) ks (ks ++ v ∷ [])) c.copy.ensures
+    ∙ insert_new ks c.args.name.now new in
     contour_tallies f c.args.name.now c.args.count c.args.self.now _ t keys refl refl refl refl refl refl

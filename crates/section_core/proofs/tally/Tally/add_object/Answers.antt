@@ -9,5 +9,7 @@ returns-in-Ok-clause-added c f t apart =
     let ks : List (List ℕ) = c.args.self.now.objects.keys in
     let new : list_any (same c.args.name.now) ks ≡ false = ap (list_any (same c.args.name.now)) t.objects ∙ apart in
     let keys : c.insert.new.self.keys ≡ ks ++ c.args.name.now ∷ [] =
-    c.in-Ok.ensures.keys ∙ ap (λ (v : List ℕ). cond (list_any (same v) ks) ks (ks ++ v ∷ [])) c.copy.ensures ∙ insert_new ks c.args.name.now new in
-    begun_tallies f (f.objects ++ c.args.name.now ∷ []) c.args.self.now _ t (keys ∙ ap (λ (os : List (List ℕ)). os ++ c.args.name.now ∷ []) t.objects) refl refl refl refl refl refl
+    c.in-Ok.ensures.keys ∙ ap (λ (v : List ℕ). cond (list_any (same v) ks) ks (ks ++ v ∷ [])) c.copy.ensures
+    ∙ insert_new ks c.args.name.now new in
+    begun_tallies f (f.objects ++ c.args.name.now ∷ []) c.args.self.now _ t
+    (keys ∙ ap (λ (os : List (List ℕ)). os ++ c.args.name.now ∷ []) t.objects) refl refl refl refl refl refl

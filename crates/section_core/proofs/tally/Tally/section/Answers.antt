@@ -10,4 +10,5 @@ returns c f t in-range =
     let old = c.args.self.now in
     let rises : is_over old.height c.args.z ≡ true = search rules in
     let room : old.sections < MAX_SECTIONS = omega (arith, old.few_sections, c.if-self-eq-MAX_SECTIONS.false) in
-    section_admitted f c.args.z c.args.line old _ t in-range rises room refl refl refl (ap Some (to_z-of_z _ _ c.ranges.z)) refl refl refl
+    section_admitted f c.args.z c.args.line old _ t in-range rises room refl refl refl
+    (ap Some (to_z-of_z _ _ c.ranges.z)) refl refl refl

@@ -17,7 +17,11 @@ returns-in_err-solved-clause-fault_count g c =
     let ps = map pair_parts c.in_ok-pairs.pairs.items in
     let old = g.P.PairSolver.solved_pairs c.args.solver.now in
     let new = g.P.PairSolver.solved_pairs c.solve_each.new.self in
-    let strips : referents c.deref-2.result.now ≡ strips_in ps = ap referents c.deref-2.ensures.value ∙ c.in_ok-strips.ensures ∙ ap (λ (l : List GapPair). strips_in (map pair_parts l)) c.deref.ensures.value in
-    let count : length c.deref-2.result.now ≡ length ps = count_referents c.deref-2.result.now (strips_in ps) strips ∙ length-map ps (λ (p : PairParts). p.strip) in
-    err_is (λ (f : Fault). FaultCount c.args.sections [] old new (f ≡ NoMemory)) c.from_residual-in_err-solved.result NoMemory c.from_residual-in_err-solved.ensures.1
-    (counted_first c.args.sections ps old new (NoMemory ≡ NoMemory) c.in_ok-pairs.ensures.pairs c.solve_each.ensures.not_less (omega (arith, c.solve_each.ensures.not_more, count)) refl)
+    let strips : referents c.deref-2.result.now ≡ strips_in ps = ap referents c.deref-2.ensures.value
+    ∙ c.in_ok-strips.ensures ∙ ap (λ (l : List GapPair). strips_in (map pair_parts l)) c.deref.ensures.value in
+    let count : length c.deref-2.result.now ≡ length ps = count_referents c.deref-2.result.now (strips_in ps) strips
+    ∙ length-map ps (λ (p : PairParts). p.strip) in
+    err_is (λ (f : Fault). FaultCount c.args.sections [] old new (f ≡ NoMemory)) c.from_residual-in_err-solved.result
+    NoMemory c.from_residual-in_err-solved.ensures.1
+    (counted_first c.args.sections ps old new (NoMemory ≡ NoMemory) c.in_ok-pairs.ensures.pairs
+    c.solve_each.ensures.not_less (omega (arith, c.solve_each.ensures.not_more, count)) refl)

@@ -12,7 +12,9 @@ returns-clause-value c =
     let x = passed_i64 e.x (omega (arith, c.requires.x)) in
     let y = passed_i64 e.y (omega (arith, c.requires.y)) in
     let turn = passed_i64 e.turn c.requires.turn in
-    let side = c.cross.ensures.value ∙ same_cross _ _ _ _ _ _ _ _ x y (passed_coordinate q.x c.from.result c.requires.across.x c.from.ensures) (passed_coordinate q.y c.from-2.result c.requires.across.y c.from-2.ensures) in
+    let side = c.cross.ensures.value ∙ same_cross _ _ _ _ _ _ _ _ x y
+    (passed_coordinate q.x c.from.result c.requires.across.x c.from.ensures)
+    (passed_coordinate q.y c.from-2.result c.requires.across.y c.from-2.ensures) in
     let fits : SFits w64 (c.cross.result -ℤ e.turn) = omega (arith, ints, c.cross.ensures.range, c.requires.turn) in
     let small : SFits w64 c.cross.result = omega (arith, ints, c.cross.ensures.range) in
     let turns : SFits w64 e.turn = omega (arith, ints, c.requires.turn) in

@@ -15,12 +15,14 @@ use Rattle.strip_graph.proofs.layout.Layout.row.Goals.{then-is_empty, else-is_em
 pub of-requires-clause-a : goal.of-requires-clause-a
 of-requires-clause-a c =
     let lt = subst (λ (s : Strip). c.args.row < 2 * rows s) (sym c.self.view_is) c.requires in
-    point_fits _ c.args.row _ c.self.invariant.strip.low (laid_ends _ _ _ _ c.args.row _ _ c.self.invariant lt c.index-from.ensures c.index-to.ensures).0
+    point_fits _ c.args.row _ c.self.invariant.strip.low
+    (laid_ends _ _ _ _ c.args.row _ _ c.self.invariant lt c.index-from.ensures c.index-to.ensures).0
 
 pub of-requires-clause-b : goal.of-requires-clause-b
 of-requires-clause-b c =
     let lt = subst (λ (s : Strip). c.args.row < 2 * rows s) (sym c.self.view_is) c.requires in
-    point_fits _ (c.args.row + 1) _ c.self.invariant.strip.low (laid_ends _ _ _ _ c.args.row _ _ c.self.invariant lt c.index-from.ensures c.index-to.ensures).1
+    point_fits _ (c.args.row + 1) _ c.self.invariant.strip.low
+    (laid_ends _ _ _ _ c.args.row _ _ c.self.invariant lt c.index-from.ensures c.index-to.ensures).1
 
 pub of-requires-clause-height : goal.of-requires-clause-height
 of-requires-clause-height c =
@@ -42,7 +44,11 @@ invariant_of-result c =
           let fits = point_fits _ 0 _ c.self.invariant.strip.high first in
           let height = passed_i32 w.index.result.now.z fits.z ∙ ap (λ (q : Point). q.z) first in
           let some : 0 < length edges = grind (arith, nat_tests) in
-          subst (λ (o : Option Edge). IfSome o Has) (sym w.edge-is) (some, subst (λ (z : ℤ). IsEdge w.of.result from to z) height w.of.ensures))
+          subst (λ (o : Option Edge). IfSome o Has) (sym w.edge-is)
+          (some, subst (λ (z : ℤ). IsEdge w.of.result from to z) height w.of.ensures))
     ] in
-    subst₂ (λ (points : List Point) (l : List Edge). IsStripRow p c.args.row c.cost.result from to points c.if-is_empty.edge l) (sym c.deref.ensures.value) (sym c.deref-2.ensures.value)
-    (laid_row p _ _ edges c.args.row c.cost.result from to c.if-is_empty.edge c.self.invariant c.cost.ensures.value ends.0 ends.1 found)
+    subst₂ (λ (points : List Point) (l : List Edge).
+    IsStripRow p c.args.row c.cost.result from to points c.if-is_empty.edge l) (sym c.deref.ensures.value)
+    (sym c.deref-2.ensures.value)
+    (laid_row p _ _ edges c.args.row c.cost.result from to c.if-is_empty.edge c.self.invariant c.cost.ensures.value
+    ends.0 ends.1 found)

@@ -12,4 +12,6 @@ bounds-self-inside-col c =
 
 pub returns-in-Some : goal.returns-in-Some
 returns-in-Some c =
-    col_edge c.self.inside.pair.now c.self.inside.row c.args.col c.self.inside.rule c.self.inside.from c.self.inside.to c.self.inside.high.now c.self.inside.edge c.self.inside.edges.now c.args.self.now _ c.self.invariant (sym c.self.view_is) (subst IsSome (sym c.in-Some.is) refl) c.requires
+    col_edge c.self.inside.pair.now c.self.inside.row c.args.col c.self.inside.rule c.self.inside.from c.self.inside.to
+    c.self.inside.high.now c.self.inside.edge c.self.inside.edges.now c.args.self.now _ c.self.invariant
+    (sym c.self.view_is) (subst IsSome (sym c.in-Some.is) refl) c.requires

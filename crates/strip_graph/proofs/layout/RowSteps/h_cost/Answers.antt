@@ -38,14 +38,19 @@ returns-in-Area-clause-value g c =
     let within = subst (λ (r : StripRow). c.args.col < cols r.strip) (sym c.self.view_is) c.requires in
     let points = c.self.inside.high.now in
     c.tile_area.ensures.value
-    ∙ ap (λ (r : CostRule). h_cost r (slice_index_or points c.args.col origin) (slice_index_or points (c.args.col + 1) origin) c.self.inside.from) (sym c.in-Area.is)
-    ∙ row_h_cost c.self.inside.pair.now c.self.inside.row c.args.col c.self.inside.rule c.self.inside.from c.self.inside.to points c.self.inside.edge c.self.inside.edges.now c.args.self.now c.self.invariant (sym c.self.view_is) within
+    ∙ ap (λ (r : CostRule). h_cost r (slice_index_or points c.args.col origin)
+    (slice_index_or points (c.args.col + 1) origin) c.self.inside.from) (sym c.in-Area.is)
+    ∙ row_h_cost c.self.inside.pair.now c.self.inside.row c.args.col c.self.inside.rule c.self.inside.from
+    c.self.inside.to points c.self.inside.edge c.self.inside.edges.now c.args.self.now c.self.invariant
+    (sym c.self.view_is) within
 
 pub returns-in_default : goal.returns-in_default
 returns-in_default g c =
     let within = subst (λ (r : StripRow). c.args.col < cols r.strip) (sym c.self.view_is) c.requires in
     record {
-      value = c.h_cost.ensures.value ∙ row_h_cost c.self.inside.pair.now c.self.inside.row c.args.col c.self.inside.rule c.self.inside.from c.self.inside.to c.self.inside.high.now c.self.inside.edge c.self.inside.edges.now c.args.self.now c.self.invariant (sym c.self.view_is) within;
+      value = c.h_cost.ensures.value ∙ row_h_cost c.self.inside.pair.now c.self.inside.row c.args.col c.self.inside.rule
+          c.self.inside.from c.self.inside.to c.self.inside.high.now c.self.inside.edge c.self.inside.edges.now
+          c.args.self.now c.self.invariant (sym c.self.view_is) within;
       range = c.h_cost.ensures.range;
       count = c.tick.ensures;
     }

@@ -18,14 +18,21 @@ pub v_cost-requires-clause-to : goal.v_cost-requires-clause-to
 v_cost-requires-clause-to g c = (row_fits _ _ _ _ _ _ _ _ c.self.invariant).2
 
 pub v_cost-requires-clause-across : goal.v_cost-requires-clause-across
-v_cost-requires-clause-across g c = (row_fits _ _ _ _ _ _ _ _ c.self.invariant).3 c.args.col (subst (λ (r : StripRow). c.args.col ≤ cols r.strip) (sym c.self.view_is) c.requires)
+v_cost-requires-clause-across g c =
+    (row_fits _ _ _ _ _ _ _ _ c.self.invariant).3 c.args.col
+    (subst (λ (r : StripRow). c.args.col ≤ cols r.strip) (sym c.self.view_is) c.requires)
 
 pub v_cost-requires-clause-edge : goal.v_cost-requires-clause-edge
 v_cost-requires-clause-edge g c =
-    let P = λ (e : Edge). IsEdge e c.self.inside.from c.self.inside.to (slice_index_or c.self.inside.high.now c.args.col origin).z in
-    behind P c.as_ref.result (subst (λ (o : Option Edge). IfSome o P) (sym c.as_ref.ensures.value) (row_edge _ _ c.args.col _ _ _ _ _ _ c.self.invariant (subst (λ (r : StripRow). c.args.col ≤ cols r.strip) (sym c.self.view_is) c.requires)))
+    let P = λ (e : Edge). IsEdge e c.self.inside.from c.self.inside.to
+    (slice_index_or c.self.inside.high.now c.args.col origin).z in
+    behind P c.as_ref.result (subst (λ (o : Option Edge). IfSome o P) (sym c.as_ref.ensures.value)
+    (row_edge _ _ c.args.col _ _ _ _ _ _ c.self.invariant
+    (subst (λ (r : StripRow). c.args.col ≤ cols r.strip) (sym c.self.view_is) c.requires)))
 
 pub returns-clause-value : goal.returns-clause-value
 returns-clause-value g c =
     let within = subst (λ (r : StripRow). c.args.col ≤ cols r.strip) (sym c.self.view_is) c.requires in
-    c.v_cost.ensures.value ∙ row_v_cost c.self.inside.pair.now c.self.inside.row c.args.col c.self.inside.rule c.self.inside.from c.self.inside.to c.self.inside.high.now c.self.inside.edge c.self.inside.edges.now c.args.self.now c.self.invariant (sym c.self.view_is) within
+    c.v_cost.ensures.value ∙ row_v_cost c.self.inside.pair.now c.self.inside.row c.args.col c.self.inside.rule
+    c.self.inside.from c.self.inside.to c.self.inside.high.now c.self.inside.edge c.self.inside.edges.now
+    c.args.self.now c.self.invariant (sym c.self.view_is) within

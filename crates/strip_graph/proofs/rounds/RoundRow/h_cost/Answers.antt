@@ -10,4 +10,6 @@ h_cost-requires-clause-across c = (round_row_fits _ _ _ _ _ _ c.self.invariant).
 
 pub returns-clause-value : goal.returns-clause-value
 returns-clause-value c =
-    c.h_cost.ensures.value ∙ round_h_cost c.self.inside.pair.now c.self.inside.row c.args.col c.self.inside.rule c.self.inside.from c.self.inside.to c.around-from.result c.around-to.result c.self.inside.high.now c.args.self.now c.self.invariant (sym c.self.view_is) c.around-from.ensures.value c.around-to.ensures.value
+    c.h_cost.ensures.value ∙ round_h_cost c.self.inside.pair.now c.self.inside.row c.args.col c.self.inside.rule
+    c.self.inside.from c.self.inside.to c.around-from.result c.around-to.result c.self.inside.high.now
+    c.args.self.now c.self.invariant (sym c.self.view_is) c.around-from.ensures.value c.around-to.ensures.value

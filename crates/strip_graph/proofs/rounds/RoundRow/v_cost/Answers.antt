@@ -13,4 +13,6 @@ v_cost-requires-clause-to c = (round_row_fits _ _ _ _ _ _ c.self.invariant).2
 
 pub returns-clause-value : goal.returns-clause-value
 returns-clause-value c =
-    c.v_cost.ensures.value ∙ round_v_cost c.self.inside.pair.now c.self.inside.row c.args.col c.self.inside.rule c.self.inside.from c.self.inside.to c.around-across.result c.self.inside.high.now c.args.self.now c.self.invariant (sym c.self.view_is) c.around-across.ensures.value
+    c.v_cost.ensures.value ∙ round_v_cost c.self.inside.pair.now c.self.inside.row c.args.col c.self.inside.rule
+    c.self.inside.from c.self.inside.to c.around-across.result c.self.inside.high.now c.args.self.now
+    c.self.invariant (sym c.self.view_is) c.around-across.ensures.value
