@@ -5,7 +5,7 @@ use Rattle.std.specs.Option.{option_map_or}
 use Rattle.std.specs.Fmt.{signed_decimal}
 use Rattle.section_core.specs.declared.parts.Version.{Version}
 use Rattle.section_core.specs.Parts.{ContourParts, FileParts, ObjectParts, SectionParts}
-use Rattle.section_core.specs.Canonical.{blank_and_name as object_text}
+use Rattle.section_core.specs.Canonical.{name_text as object_text}
 use Rattle.strip_graph.specs.Strips.{rows, cols}
 use Rattle.cert_checker.specs.CertTexts.{letter}
 use Rattle.row_paths.specs.Solutions.{Solution}

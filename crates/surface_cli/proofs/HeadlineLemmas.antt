@@ -15,7 +15,7 @@ use Rattle.strip_graph.specs.Strips.{Strip}
 use Rattle.row_paths.specs.Solutions.{Solution}
 use Rattle.pair_pool.specs.Solvers.{SolvesEach}
 use Rattle.cert_checker.specs.CertTexts.{certificate_parts}
-use Rattle.cert_checker.specs.CertReading.{ReadsAsMesh as ReadsAsCert, IsCertFault}
+use Rattle.cert_checker.specs.CertReading.{ReadsAsCertificate as ReadsAsCert, IsCertFault}
 use Rattle.plane_geom.specs.Rings.{IsClosed}
 use Rattle.triangle_meshes.specs.Meshes.{Surface, surface_of}
 use Rattle.byu_text.specs.Byu.{byu_of}

@@ -12,7 +12,7 @@ use Rattle.strip_graph.specs.Strips.{Strip, rows, cols, arcs}
 use Rattle.cert_checker.specs.declared.certs.CertText.{CertText}
 use Rattle.cert_checker.specs.declared.certs.Verdict.TheVariants.{Accept}
 use Rattle.cert_checker.specs.CertTexts.{certificate_parts}
-use Rattle.cert_checker.specs.CertReading.{ReadsAsMesh as ReadsAsCert}
+use Rattle.cert_checker.specs.CertReading.{ReadsAsCertificate as ReadsAsCert}
 use Rattle.row_paths.specs.Solutions.{Solution}
 use Rattle.triangle_meshes.specs.Meshes.{Surface}
 use Rattle.triangle_meshes.specs.Joined.{joined}

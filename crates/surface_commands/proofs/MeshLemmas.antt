@@ -19,7 +19,7 @@ use Rattle.mesh_measures.specs.Moments.{moment}
 use Rattle.mesh_measures.specs.declared.enclosing.Solid.{Solid}
 use Rattle.mesh_measures.specs.declared.measuring.Measures.{Measures}
 use Rattle.surface_commands.specs.Crossings.{cross_line, cross_lines, crossed_text, crossing_parts_text}
-use Rattle.surface_commands.specs.Measure.{IsSolid, measured_text, crossing_parts_text as measured_parts}
+use Rattle.surface_commands.specs.Measure.{IsSolid, measured_text, parts_text as measured_parts}
 
 -- the fault of a text is reported as it is, or memory ran out
 pub byu_fault : (text : List ℕ) (f : Fault) → IsMeshFault text f → OrNoMemory (IsByuFault text) f

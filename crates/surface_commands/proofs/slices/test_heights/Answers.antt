@@ -4,7 +4,7 @@ use Rattle.fku_types.specs.declared.fault.Fault.TheVariants.{Outside}
 use Rattle.section_core.specs.Parts.{Parts}
 use Rattle.surface_core.specs.Objects.{sections_in}
 use Rattle.surface_core.proofs.ObjectFacts.{objects_are}
-use Rattle.section_slices.specs.Slices.{IsHeightFaultOfAll as IsFaultOfOne, IsOnSection, IsOutside}
+use Rattle.section_slices.specs.Slices.{IsHeightFault as IsFaultOfOne, IsOnSection, IsOutside}
 use Rattle.section_slices.proofs.SliceLaws.{not_on_section}
 use Rattle.surface_commands.specs.Slice.{IsHeightFaultOfAll, on_section, outside}
 use Rattle.surface_commands.proofs.SliceLemmas.{OnNone, OutsideAll, lies_on, lies_outside, no_outside, no_section, none_more, object_at, of_all, outside_at, outside_more}
