@@ -1,24 +1,18 @@
 -- Worked texts: two squares, one above the other, and texts that differ from theirs.
-use Rattle.std.proofs.Common.{◌≡◌, ℕ, ◌+◌, ◌≤◌, ℤ, pos, negsuc, lit<, List, [], ◌∷◌, ◌++◌, length, take, get_or, refl, ap, ◌∙◌, arith, All}
+use Rattle.std.proofs.Common.{◌≡◌, ℕ, ◌≤◌, ℤ, pos, negsuc, List, [], ◌∷◌, ◌++◌, length, get_or, refl, ap, ◌∙◌, arith, All}
 use Rattle.std.specs.Prelude.{codes}
 use Rattle.std.specs.Fmt.{digits}
 use Rattle.std.proofs.lemmas.List.Elements.{All-nil, All-cons, All-from_recursion}
 use Rattle.fku_types.specs.declared.points.Point.{Point}
 use Rattle.fku_types.specs.Points.{IsInRange}
-use Rattle.plane_geom.specs.Rings.{IsClosed}
 use Rattle.triangle_meshes.specs.Meshes.{Surface}
 use Rattle.triangle_meshes.proofs.Validity.{valid_from_test}
 use Rattle.byu_text.specs.Fields.{coordinates_line, sign_byte}
-use Rattle.byu_text.specs.Lines.{text_lines_of}
-use Rattle.byu_text.specs.Reading.{IsMesh, ReadsAsMesh, BeginsAs, HasMeshFault}
-use Rattle.triangle_meshes.specs.Edges.{edges_of}
+use Rattle.byu_text.specs.Reading.{IsMesh, ReadsAsMesh, HasMeshFault}
 use Rattle.byu_text.specs.Pieces.{Counts, AreMeshCounts, AreSizes, ArePoints}
 use Rattle.byu_text.specs.Stages.{AreNext, NoneOf}
-use Rattle.byu_text.proofs.Fronts.{StartsAs, starts_from_begins, has_lines, fault_from}
-use Rattle.byu_text.proofs.BehindHead.{unread_by}
 use Rattle.byu_text.proofs.CountsStuck.{head_fault}
 use Rattle.byu_text.proofs.PointsStuck.{points_fault}
-use Rattle.byu_text.proofs.Written.{line_count}
 use Rattle.byu_text.proofs.LineForms.{head_is}
 use Rattle.byu_text.proofs.LineFields.{two_of}
 
@@ -45,8 +39,8 @@ later_vertices =
     ++ (codes " 0.00000E+00 0.00000E+00 1.00000E+01 1.00000E+01 0.00000E+00 1.00000E+01\n"
     ++ codes " 1.00000E+01 1.00000E+01 1.00000E+01 0.00000E+00 1.00000E+01 1.00000E+01\n")
 
-abbrev first_polygons : List ℕ
-first_polygons =
+abbrev polygons : List ℕ
+polygons =
     codes "       4       2      -1\n"
     ++ (codes "       2       4      -3\n"
     ++ (codes "       1       2      -5\n"
@@ -57,25 +51,21 @@ first_polygons =
     ++ (codes "       8       7      -4\n"
     ++ (codes "       4       1      -8\n"
     ++ (codes "       5       8      -1\n"
-    ++ codes "       8       5      -6\n")))))))))
+    ++ (codes "       8       5      -6\n"
+    ++ codes "       6       7      -8\n"))))))))))
 
 abbrev first_vertices : List ℕ
 first_vertices = codes " 0.00000E+00 0.00000E+00 0.00000E+00 1.00000E+01 0.00000E+00 0.00000E+00\n"
 
--- without the last polygon
-abbrev short_text : List ℕ
-short_text = counts_text ++ (part_text ++ (first_vertices ++ (later_vertices ++ first_polygons)))
-
 abbrev squares_text : List ℕ
-squares_text = short_text ++ codes "       6       7      -8\n"
+squares_text = counts_text ++ (part_text ++ (first_vertices ++ (later_vertices ++ polygons)))
 
 -- with a plus in place of the first blank of the third line
 abbrev plus_vertices : List ℕ
 plus_vertices = codes "+0.00000E+00 0.00000E+00 0.00000E+00 1.00000E+01 0.00000E+00 0.00000E+00\n"
 
 abbrev plus_text : List ℕ
-plus_text = counts_text ++ (part_text
-    ++ (plus_vertices ++ (later_vertices ++ (first_polygons ++ codes "       6       7      -8\n"))))
+plus_text = counts_text ++ (part_text ++ (plus_vertices ++ (later_vertices ++ polygons)))
 
 three_each : All (All (λ ids. length ids ≡ 3)) squares.parts
 three_each = All-cons (All (λ ids. length ids ≡ 3)) (get_or squares.parts 0 []) []
@@ -90,29 +80,7 @@ pub squares_read : ReadsAsMesh squares_text squares
 unfolding digits
 squares_read = record { mesh = squares_are; same = refl }
 
-pub eighteen_lines : length (text_lines_of squares_text) ≡ 18
-eighteen_lines = refl
-
-pub eighteen_edges : edges_of squares ≡ 18
-eighteen_edges = refl
-
--- ---- the last polygon turned
-
-abbrev turned : Surface
-turned = record {
-  vertices = squares.vertices;
-  parts =
-      (take 11 (get_or squares.parts 0 []) ++ (5 ∷ 7 ∷ 6 ∷ []) ∷ []) ∷ [];
-}
-
-pub turned_edges : edges_of turned ≡ 18
-turned_edges = refl
-
-pub turned_open : IsClosed (get_or turned.parts 0 []) → ⊥
-turned_open closed = absurd (let e : 2 ≡ 0 = closed 7 6 in omega (arith, e))
-
--- ---- no bytes
-
+-- no bytes
 pub no_bytes : HasMeshFault [] 1
 no_bytes = head_fault [] (λ h more i e.
     absurd (let l = head_is h i in empty l.body more (e ∙ ap (λ (x : List ℕ). x ++ more) l.is)))
@@ -121,8 +89,7 @@ no_bytes = head_fault [] (λ h more i e.
     empty [] more e = cc
     empty (b ∷ body) more e = cc
 
--- ---- without the last line
-
+-- a second spelling of a coordinate
 abbrev counts : Counts
 counts = record { parts = 1; vertices = 8; polygons = 12 }
 
@@ -136,23 +103,6 @@ counts_are = record {
   enough = omega arith;
   few_polygons = omega arith;
 }
-
-short_begins : BeginsAs short_text 17 squares
-unfolding digits
-short_begins = record { mesh = squares_are; same = refl }
-
-pub line_missing : HasMeshFault short_text 18
-unfolding digits line_count
-line_missing =
-    let seventeen : length (text_lines_of short_text) ≡ 17 = refl in
-    let t = starts_from_begins short_text 17 squares (omega (arith, seventeen)) short_begins in
-    let none : (s : Surface) → StartsAs short_text (17 + 1) s → ⊥ =
-    λ s u. absurd (omega (arith, has_lines short_text 18 s u, seventeen)) in
-    fault_from short_text 17 squares t none
-    (unread_by short_text counts (part_text ++ (first_vertices ++ (later_vertices ++ first_polygons))) 17 counts_are
-    refl (lit< tt) none)
-
--- ---- a second spelling
 
 sizes_are : AreSizes counts (12 ∷ [])
 sizes_are = record {
@@ -179,5 +129,42 @@ no_plus more ps rest a e =
 pub plus_refused : HasMeshFault plus_text 3
 unfolding digits
 plus_refused = points_fault plus_text counts (12 ∷ []) []
-    (plus_vertices ++ (later_vertices ++ (first_polygons ++ codes "       6       7      -8\n"))) 0 counts_are sizes_are
+    (plus_vertices ++ (later_vertices ++ polygons)) 0 counts_are sizes_are
     refl points_are refl (omega arith) refl (no_plus _)
+
+-- ---- the counts of a first line: the smallest and the largest, and one past each end
+
+abbrev counts_of : ℕ → ℕ → ℕ → Counts
+counts_of parts vertices polygons = record { parts = parts; vertices = vertices; polygons = polygons }
+
+ends : AreMeshCounts (counts_of 1 1 1) × AreMeshCounts (counts_of 4096 2097152 5000000)
+ends = (
+  record {
+    some_part = omega arith;
+    few_parts = omega arith;
+    some_vertex = omega arith;
+    few_vertices = omega arith;
+    enough = omega arith;
+    few_polygons = omega arith;
+  },
+  record {
+    some_part = omega arith;
+    few_parts = omega arith;
+    some_vertex = omega arith;
+    few_vertices = omega arith;
+    enough = omega arith;
+    few_polygons = omega arith;
+  },
+)
+
+past_ends : (AreMeshCounts (counts_of 4097 2097152 5000000) → ⊥) × (AreMeshCounts (counts_of 4096 2097153 5000000) → ⊥)
+    × (AreMeshCounts (counts_of 4096 2097152 5000001) → ⊥) × (AreMeshCounts (counts_of 0 1 1) → ⊥)
+    × (AreMeshCounts (counts_of 1 0 1) → ⊥) × (AreMeshCounts (counts_of 2 1 1) → ⊥)
+past_ends = (
+  (λ h. omega (arith, h.few_parts)),
+  (λ h. omega (arith, h.few_vertices)),
+  (λ h. omega (arith, h.few_polygons)),
+  (λ h. omega (arith, h.some_part)),
+  (λ h. omega (arith, h.some_vertex)),
+  λ h. omega (arith, h.enough),
+)

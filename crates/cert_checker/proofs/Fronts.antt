@@ -91,7 +91,7 @@ pub begins_none : (lines : List Line) → AllZip Matches lines [] → BeginsCert
 begins_none lines m =
     let C = filled some_head (V ∷ []) 0 [] in
     record {
-      cert = C;
+      says = C;
       lawful = filled_lawful some_head (V ∷ []) 0 [] some_head_is one_letter (omega arith) refl
           (All-nil IsModest);
       front = [];
@@ -106,7 +106,7 @@ begins_head h ih lines m =
     let C = filled h (V ∷ []) 0 [] in
     let none : 0 ≡ 0 * (h.cols + 1) = omega arith in
     record {
-      cert = C;
+      says = C;
       lawful = filled_lawful h (V ∷ []) 0 [] ih one_letter (omega arith) none (All-nil IsModest);
       front = head_line h ∷ [];
       rest = word_line (V ∷ []) ∷ (value_lines C ++ certificate_end ∷ []);
@@ -120,7 +120,7 @@ pub begins_rows : (h : CertHead) (w : List Step) (k : ℕ) (v : List ℤ) → Is
 begins_rows h w k v ih iw le n m lines z =
     let c = continued h w k v le n in
     record {
-      cert = filled h w k v;
+      says = filled h w k v;
       lawful = filled_lawful h w k v ih iw le n m;
       front = first_lines h w k v;
       rest =
@@ -128,18 +128,6 @@ begins_rows h w k v ih iw le n m lines z =
       split = c.split;
       match = z;
     }
-
-pub begins_whole : (C : CertParts) → IsLawfulCertificate C → (lines : List Line) → AllZip Matches lines (cert_lines C)
-    → BeginsCertificate lines
-begins_whole C l lines z = record {
-  cert = C;
-  lawful = l;
-  front = cert_lines C;
-  rest = [];
-  split =
-      sym (append-nil (cert_lines C));
-  match = z;
-}
 
 -- the first lines with one row more
 pub lines_more : (h : CertHead) (w : List Step) (k : ℕ) (v new row : List ℤ) → length v ≡ k * (h.cols + 1)

@@ -1,9 +1,10 @@
 -- Numbers after keywords, and the first line of a certificate's text.
-use Rattle.std.proofs.Common.{◌≡◌, ℕ, ℤ, pos, List, [], ◌∷◌, ◌++◌, Some, ap, sym, ◌∙◌, subst}
-use Rattle.std.specs.Prelude.{codes}
-use Rattle.text_io.specs.WordLists.{Word, text, number, Matches, Line}
+use Rattle.std.proofs.Common.{◌≡◌, ◌≤◌, ℕ, ℤ, pos, List, [], ◌∷◌, ◌++◌, Option, None, Some, Bor, ap, sym, ◌∙◌, subst}
+use Rattle.std.specs.Prelude.{codes, MatchOption}
+use Rattle.text_io.specs.Text.{words}
+use Rattle.text_io.specs.WordLists.{Word, text, number, Matches, Line, IsFirstCount}
 use Rattle.cert_checker.specs.CertTexts.{CertHead, named, head_line}
-use Rattle.cert_checker.specs.LineSteps.{HasNumberAfter, NoneNamed}
+use Rattle.cert_checker.specs.LineSteps.{HasNumberAfter, NoneNamed, IsBetween}
 
 -- the number that was read after a keyword is the only one
 pub named_one : (ws : Line) (k : List ℕ) (z : ℤ) (more : Line) (k' : List ℕ) (z' : ℤ) (ps : List Word)
@@ -81,3 +82,41 @@ head_one ws h g m m' =
     let start = pos_same g.start h.start b6.0 in
     let cost = b5.0 in
     λ i. record { pair = pair i; rows = rows i; cols = cols i; cost = cost i; start = start i }
+
+-- a first line whose numbers were read one after another reads on as the words after each number
+pub to_pair : (ws a : Line) (one : ℤ) (h : CertHead) → HasNumberAfter ws (codes "CERT") one a
+    → Matches ws (head_line h) → Matches a (from_pair h)
+to_pair ws a one h n m = named_tail ws (codes "CERT") one a (pos 1) (from_pair h) n m
+
+pub to_rows : (a b : Line) (pair : ℤ) (h : CertHead) → HasNumberAfter a (codes "PAIR") pair b
+    → Matches a (from_pair h) → Matches b (from_rows h)
+to_rows a b pair h n m = named_tail a (codes "PAIR") pair b (pos h.pair) (from_rows h) n m
+
+pub to_cols : (a b : Line) (rows : ℤ) (h : CertHead) → HasNumberAfter a (codes "ROWS") rows b
+    → Matches a (from_rows h) → Matches b (from_cols h)
+to_cols a b rows h n m = named_tail a (codes "ROWS") rows b (pos h.rows) (from_cols h) n m
+
+pub to_cost : (a b : Line) (cols : ℤ) (h : CertHead) → HasNumberAfter a (codes "COLS") cols b
+    → Matches a (from_cols h) → Matches b (from_cost h)
+to_cost a b cols h n m = named_tail a (codes "COLS") cols b (pos h.cols) (from_cost h) n m
+
+pub to_start : (a b : Line) (cost : ℤ) (h : CertHead) → HasNumberAfter a (codes "COST") cost b
+    → Matches a (from_cost h) → Matches b (from_start h)
+to_start a b cost h n m = named_tail a (codes "COST") cost b h.cost (from_start h) n m
+
+-- a count behind a keyword
+pub count_named : (ws : Line) (k : List ℕ) (more : Line) (least most : ℕ) (o : Option (ℕ × Bor (List ℕ)))
+    → ws ≡ k ∷ more
+    → MatchOption o ((n : ℕ) (left : Line) → IsFirstCount more least most n left → ⊥) (λ s.
+    IsFirstCount more least most s.0 (words s.1.now))
+    → MatchOption o (NoneNamed (IsBetween least most) ws k) (λ c.
+    (least ≤ c.0) × (c.0 ≤ most) × HasNumberAfter ws k (pos c.0) (words c.1.now))
+count_named ws k more least most None e none = λ z left p n.
+    let f : more ≡ n.word ∷ left = let g : k ∷ more ≡ k ∷ n.word ∷ left = sym e ∙ n.words in cc in
+    none p.0 left
+    (record { word = n.word; words = f; says = (n.says ∙ ap (λ (x : ℤ). Some x) p.1, p.2, p.3) })
+count_named ws k more least most (Some s) e is = (
+  is.says.1,
+  is.says.2,
+  record { word = is.word; words = e ∙ ap (λ (ls : Line). k ∷ ls) is.words; says = is.says.0 },
+)

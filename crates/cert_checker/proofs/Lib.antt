@@ -4,11 +4,9 @@ mod Worked
 mod WorkedTexts
 pub mod RowLists
 pub mod HeadLines
-pub mod WordLines
 pub mod RowWords
 pub mod Fronts
 pub mod NextLines
-pub mod PlacesRead
 pub mod TextLaws
 pub mod PrintedCerts
 pub mod PrintedSizes

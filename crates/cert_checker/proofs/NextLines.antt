@@ -92,7 +92,7 @@ row_at C k l lt =
 -- only a first line begins a front
 pub stuck_head : (line : Line) → ((h : CertHead) → IsHead h → Matches line (head_line h) → ⊥) → (before : List Line)
     → AllZip Matches before [] → BeginsCertificate (before ++ line ∷ []) → ⊥
-stuck_head line none [] z b = none b.cert.head b.lawful.head (front_head line [] b.front b.rest b.cert b.split b.match)
+stuck_head line none [] z b = none b.says.head b.lawful.head (front_head line [] b.front b.rest b.says b.split b.match)
 stuck_head line none (l ∷ ls) z b = absurd z
 
 -- only a word continues a first line
@@ -100,7 +100,7 @@ pub stuck_word : (h : CertHead) (line : Line) → ((w : List Step) → IsWord w 
     → (before : List Line) → AllZip Matches before (head_line h ∷ []) → BeginsCertificate (before ++ line ∷ []) → ⊥
 stuck_word h line none [] z b = absurd z
 stuck_word h line none (one ∷ []) z b =
-    none b.cert.word b.lawful.word (word_forced one line b.front b.rest b.cert b.split b.match)
+    none b.says.word b.lawful.word (word_forced one line b.front b.rest b.says b.split b.match)
 stuck_word h line none (one ∷ two ∷ ls) z b = absurd z.1
 
 same_size : (h g : CertHead) → g ≡ h → (2 * g.rows ≡ 2 * h.rows) × (g.cols + 1 ≡ h.cols + 1)
@@ -113,15 +113,15 @@ pub stuck_row : (h : CertHead) (w : List Step) (k : ℕ) (v : List ℤ) (line : 
 stuck_row h w k v line lt none [] z b = absurd z
 stuck_row h w k v line lt none (one ∷ []) z b = absurd z.1
 stuck_row h w k v line lt none (one ∷ two ∷ ls) z b =
-    let f = rows_forced one two (ls ++ line ∷ []) b.front b.rest b.cert b.split b.match in
-    let same = same_size h b.cert.head (head_one one h b.cert.head z.0 f.head) in
-    let r = row_at b.cert k b.lawful (omega (arith, lt, same.0)) in
-    let qs = map row_line (rows_in (b.cert.head.cols + 1) k b.cert.values) in
+    let f = rows_forced one two (ls ++ line ∷ []) b.front b.rest b.says b.split b.match in
+    let same = same_size h b.says.head (head_one one h b.says.head z.0 f.head) in
+    let r = row_at b.says k b.lawful (omega (arith, lt, same.0)) in
+    let qs = map row_line (rows_in (b.says.head.cols + 1) k b.says.values) in
     let long : length qs ≡ length ls =
     omega (
       arith,
-      length-map (rows_in (b.cert.head.cols + 1) k b.cert.values) row_line,
-      rows_count (b.cert.head.cols + 1) k b.cert.values,
+      length-map (rows_in (b.says.head.cols + 1) k b.says.values) row_line,
+      rows_count (b.says.head.cols + 1) k b.says.values,
       AllZip-long Matches ls (map row_line (rows_in (h.cols + 1) k v)) z.1.1,
       length-map (rows_in (h.cols + 1) k v) row_line,
       rows_count (h.cols + 1) k v,
@@ -136,14 +136,14 @@ pub stuck_end : (h : CertHead) (w : List Step) (v : List ℤ) (line : Line) → 
 stuck_end h w v line none [] z b = absurd z
 stuck_end h w v line none (one ∷ []) z b = absurd z.1
 stuck_end h w v line none (one ∷ two ∷ ls) z b =
-    let f = rows_forced one two (ls ++ line ∷ []) b.front b.rest b.cert b.split b.match in
-    let same = same_size h b.cert.head (head_one one h b.cert.head z.0 f.head) in
-    let qs = value_lines b.cert in
+    let f = rows_forced one two (ls ++ line ∷ []) b.front b.rest b.says b.split b.match in
+    let same = same_size h b.says.head (head_one one h b.says.head z.0 f.head) in
+    let qs = value_lines b.says in
     let long : length qs ≡ length ls =
     omega (
       arith,
-      length-map (rows_in (b.cert.head.cols + 1) (2 * b.cert.head.rows) b.cert.values) row_line,
-      rows_count (b.cert.head.cols + 1) (2 * b.cert.head.rows) b.cert.values,
+      length-map (rows_in (b.says.head.cols + 1) (2 * b.says.head.rows) b.says.values) row_line,
+      rows_count (b.says.head.cols + 1) (2 * b.says.head.rows) b.says.values,
       AllZip-long Matches ls (map row_line (rows_in (h.cols + 1) (2 * h.rows) v)) z.1.1,
       length-map (rows_in (h.cols + 1) (2 * h.rows) v) row_line,
       rows_count (h.cols + 1) (2 * h.rows) v,
@@ -168,8 +168,8 @@ pub stuck_past : (h : CertHead) (w : List Step) (v : List ℤ) (line : Line) (be
     → BeginsCertificate (before ++ line ∷ []) → ⊥
 stuck_past h w v line [] z b = absurd z
 stuck_past h w v line (one ∷ ls) z b =
-    let same = same_size h b.cert.head
-    (head_one one h b.cert.head z.0 (front_head one (ls ++ line ∷ []) b.front b.rest b.cert b.split b.match)) in
+    let same = same_size h b.says.head
+    (head_one one h b.says.head z.0 (front_head one (ls ++ line ∷ []) b.front b.rest b.says b.split b.match)) in
     omega (
       arith,
       AllZip-long Matches (one ∷ ls) (first_lines h w (2 * h.rows) v ++ certificate_end ∷ []) z,
@@ -179,7 +179,7 @@ stuck_past h w v line (one ∷ ls) z b =
       length-append (one ∷ ls) (line ∷ []),
       ap length b.split,
       length-append b.front b.rest,
-      cert_count b.cert,
+      cert_count b.says,
       same.0,
     )
 

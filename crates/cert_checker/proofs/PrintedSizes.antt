@@ -97,8 +97,9 @@ word_size w i = omega (
   i.1,
 )
 
-pub text_short : (C : CertParts) → IsLawfulCertificate C → length (cert_text C) ≤ MAX_CHECK_BYTES
-text_short C l =
+-- with room for a section text before it
+pub text_size : (C : CertParts) → IsLawfulCertificate C → length (cert_text C) ≤ 1400000000
+text_size C l =
     let w = C.head.cols + 1 in
     let k = 2 * C.head.rows in
     let rs = rows_in w k C.values in
@@ -119,3 +120,6 @@ text_short C l =
       mul-le-mul_left (length rs) (mul-le-mul_left 39 wide),
       mul-le-mul_right (39 * (MAX_COMPOSITE_VERTICES + 1)) long,
     )
+
+pub text_short : (C : CertParts) → IsLawfulCertificate C → length (cert_text C) ≤ MAX_CHECK_BYTES
+text_short C l = omega (arith, text_size C l)

@@ -1,10 +1,10 @@
 -- A row is read number by number.
-use Rattle.std.proofs.Common.{◌≡◌, ℕ, ◌+◌, ◌<◌, ℤ, List, [], ◌∷◌, ◌++◌, length, drop, Some, refl, ap, sym, ◌∙◌, subst, append_assoc, append-nil, arith, length-append}
-use Rattle.std.specs.Prelude.{slice_range, All, get_or}
+use Rattle.std.proofs.Common.{◌≡◌, ℕ, ◌+◌, ◌<◌, ℤ, List, [], ◌∷◌, ◌++◌, length, Some, refl, ap, sym, ◌∙◌, subst, append_assoc, append-nil, arith, length-append}
+use Rattle.std.specs.Prelude.{All, get_or}
 use Rattle.std.proofs.lemmas.List.{get_or_at}
 use Rattle.std.proofs.lemmas.List.Elements.{All-push, All-nil, All-get_or}
 use Rattle.strip_graph.specs.Certificates.{IsModest}
-use Rattle.text_io.specs.Text.{words, number_of, IsWordAt}
+use Rattle.text_io.specs.Text.{number_of}
 use Rattle.text_io.specs.WordLists.{Matches, Line}
 use Rattle.cert_checker.specs.CertTexts.{IsValueRow, row_line}
 use Rattle.cert_checker.specs.LineSteps.{IsValue, PutsRow}
@@ -38,9 +38,10 @@ first_is w more z (y ∷ ys) e m =
     let g : y ≡ z = cc in
     (ys, ap (λ (x : ℤ). x ∷ ys) g, m.1)
 
-more_put : (old new new' : List ℤ) (all : Line) (w : List ℕ) (more rest : Line) (count : ℕ) (z : ℤ) → rest ≡ w ∷ more
+-- one more number
+pub row_more : (old new new' : List ℤ) (all : Line) (w : List ℕ) (more rest : Line) (count : ℕ) (z : ℤ) → rest ≡ w ∷ more
     → IsValue w z → new' ≡ new ++ z ∷ [] → RowSoFar old new all rest count → RowSoFar old new' all more (count + 1)
-more_put old new new' all w more rest count z e v n r =
+row_more old new new' all w more rest count z e v n r =
     record {
       row = r.row ++ z ∷ [];
       put = n ∙ ap (λ (xs : List ℤ). xs ++ z ∷ []) r.put ∙ append_assoc old r.row (z ∷ []);
@@ -55,19 +56,11 @@ more_put old new new' all w more rest count z e v n r =
           (r.back (z ∷ zs) (subst (λ (ws : Line). Matches ws (row_line (z ∷ zs))) (sym e) (v.0, m)));
     }
 
--- one more number
-pub row_more : (old new new' : List ℤ) (all : Line) (line : List ℕ) (at first end count : ℕ) (z : ℤ)
-    → IsWordAt line at first end → IsValue (slice_range line first end) z → new' ≡ new ++ z ∷ []
-    → RowSoFar old new all (words (drop at line)) count → RowSoFar old new' all (words (drop end line)) (count + 1)
-row_more old new new' all line at first end count z w v n r =
-    more_put old new new' all (slice_range line first end) (words (drop end line)) (words (drop at line)) count z
-    w.words v n r
-
 -- a word is not a number that a row may have
-wrong_from : (old new : List ℤ) (all rest : Line) (count width : ℕ) (w : List ℕ) (more : Line)
+pub row_wrong : (old new : List ℤ) (all rest : Line) (count width : ℕ) (w : List ℕ) (more : Line)
     → RowSoFar old new all rest count → rest ≡ w ∷ more → count < width → ((z : ℤ) → IsValue w z → ⊥) → (row : List ℤ)
     → IsValueRow width row → Matches all (row_line row) → ⊥
-wrong_from old new all rest count width w more r e lt none row is m =
+row_wrong old new all rest count width w more r e lt none row is m =
     let a = r.only row m in
     first_wrong a.0 a.1 (subst (λ (ws : Line). Matches ws (row_line a.0)) e a.2)
   where
@@ -78,14 +71,6 @@ wrong_from old new all rest count width w more r e lt none row is m =
         ∙ get_or_at r.row z zs z count r.counted in
         let inside : count < length row = omega (arith, is.0, lt) in
         none z (g.0, subst IsModest here (All-get_or IsModest row count z inside is.1))
-
-pub row_wrong : (old new : List ℤ) (all : Line) (line : List ℕ) (at first end count width : ℕ)
-    → RowSoFar old new all (words (drop at line)) count → IsWordAt line at first end → count < width
-    → ((z : ℤ) → IsValue (slice_range line first end) z → ⊥) → (row : List ℤ) → IsValueRow width row
-    → Matches all (row_line row) → ⊥
-row_wrong old new all line at first end count width r w lt none =
-    wrong_from old new all (words (drop at line)) count width (slice_range line first end) (words (drop end line)) r
-    w.words lt none
 
 -- the whole row was read
 pub row_whole : (old new : List ℤ) (all rest : Line) (count width : ℕ) → RowSoFar old new all rest count → rest ≡ []

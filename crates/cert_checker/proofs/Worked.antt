@@ -16,7 +16,7 @@ use Rattle.strip_graph.specs.Certificates.{value_at, StepHolds, TurnHolds}
 use Rattle.strip_graph.proofs.ComputedTests.{are_modest, modest, passes, passes_at, list_at}
 use Rattle.strip_graph.proofs.Worked.{squares}
 use Rattle.cert_checker.specs.declared.certs.Cert.{Cert}
-use Rattle.cert_checker.specs.declared.certs.Verdict.TheVariants.{Accept, Size, Word, Cost, Arc, Turn}
+use Rattle.cert_checker.specs.declared.certs.Verdict.TheVariants.{Accept, Arc, Turn}
 use Rattle.cert_checker.specs.Verdicts.{FitsPair, ComesBefore, IsVerdict}
 
 -- a certificate of 4 columns, wherever its lists lie
@@ -89,23 +89,6 @@ accepted v = record {
   steps = all_steps (numbers 300) tt tt;
   turns = all_turns (numbers 300) 1200 tt;
 }
-
--- three rows
-three_rows : (v : Vec ℤ Global) → IsVerdict squares (cert v 3 1200 word tt (numbers 300) tt) Size
-three_rows v = λ f. omega (arith, f.rows_same)
-
--- the last letter omitted
-short_word : (v : Vec ℤ Global) → IsVerdict squares (cert v 4 1200 (V ∷ H ∷ V ∷ H ∷ V ∷ H ∷ V ∷ []) tt (numbers 300) tt)
-    Word
-short_word v = (
-  fits v 1200 (V ∷ H ∷ V ∷ H ∷ V ∷ H ∷ V ∷ []) tt (numbers 300) tt refl tt tt,
-  (λ a. omega (arith, a.letters.h)),
-)
-
--- another cost
-other_cost : (v : Vec ℤ Global) → IsVerdict squares (cert v 4 1199 word tt (numbers 300) tt) Cost
-unfolding arcs around distance_square square
-other_cost v = (fits v 1199 word tt (numbers 300) tt refl tt tt, goes_round, (λ e. omega (arith, ints, e)))
 
 -- one number raised by 1
 raised : (v : Vec ℤ Global) → IsVerdict squares (cert v 4 1200 word tt (numbers 301) tt) (Arc 0 1 V)

@@ -1,16 +1,17 @@
 -- The definitions of certificate texts at worked examples: the certificate of two equal squares, one above the other.
-use Rattle.std.proofs.Common.{◌≡◌, ℕ, ◌+◌, ◌-◌, ◌^◌, ℤ, pos, negsuc, List, [], ◌∷◌, refl, inl, inr, arith, Some}
+use Rattle.std.proofs.Common.{◌≡◌, ℕ, ◌+◌, ◌-◌, ◌^◌, ℤ, pos, negsuc, List, [], ◌∷◌, refl, inl, arith, Some}
 use Rattle.std.specs.Prelude.{codes}
 use Rattle.std.specs.Fmt.{digits}
 use Rattle.strip_graph.specs.declared.tilings.Step.TheVariants.{V, H}
 use Rattle.strip_graph.specs.Certificates.{IsModest}
 use Rattle.strip_graph.proofs.ComputedTests.{modest}
 use Rattle.text_io.specs.Text.{words}
-use Rattle.text_io.specs.WordLists.{Matches, Line, lines_of}
+use Rattle.text_io.specs.WordLists.{Matches, Line}
 use Rattle.cert_checker.specs.CertTexts.{CertHead, CertParts, IsHead, IsValueRow, IsLawfulCertificate, head_line, cert_text}
-use Rattle.cert_checker.specs.CertReading.{kept_behind, last_line, ReadsAsCertificate, HasCertificateFault}
-use Rattle.cert_checker.proofs.Fronts.{begins_none, begins_rows, begins_whole}
-use Rattle.cert_checker.proofs.NextLines.{short_none, short_rows, stuck_head, stuck_past}
+use Rattle.text_io.specs.Formats.{kept_behind}
+use Rattle.cert_checker.specs.CertReading.{ReadsAsCertificate, HasCertificateFault}
+use Rattle.cert_checker.proofs.Fronts.{begins_none}
+use Rattle.cert_checker.proofs.NextLines.{stuck_head}
 
 abbrev head : CertHead
 head = record { pair = 1; rows = 4; cols = 4; cost = pos 1200; start = 0 }
@@ -76,128 +77,6 @@ reads = record {
     ),
   );
 }
-
--- other ends of lines, blanks, an empty line, a comment, leading zeros and -0
-reads_too : ReadsAsCertificate (kept_behind 16
-    (codes
-    "# by hand\nCERT\t1\tPAIR\t1\tROWS\t4\tCOLS\t4\tCOST\t01200\tSTART  -0\r\n\nWORD VHVHVHVH\r\n\n0 200 500 700 800\r\n\n200 300 500 800 1000\r\n\n300 500 600 800 1100\r\n\n500 800 800 900 1100\r\n\n600 800 1100 1100 1200\r\n\n800 900 1100 1400 1400\r\n\n1100 1100 1200 1400 1700\r\n\n1300 1400 1400 1500 1700\r\n\nEND")) squares
-reads_too = record {
-  lawful = lawful;
-  match = (
-    (refl, (refl, (refl, (refl, (refl, (refl, (refl, (refl, (refl, (refl, (refl, (refl, tt)))))))))))),
-    (
-      (refl, (refl, tt)),
-      (
-        (refl, (refl, (refl, (refl, (refl, tt))))),
-        (
-          (refl, (refl, (refl, (refl, (refl, tt))))),
-          (
-            (refl, (refl, (refl, (refl, (refl, tt))))),
-            (
-              (refl, (refl, (refl, (refl, (refl, tt))))),
-              (
-                (refl, (refl, (refl, (refl, (refl, tt))))),
-                (
-                  (refl, (refl, (refl, (refl, (refl, tt))))),
-                  ((refl, (refl, (refl, (refl, (refl, tt))))), ((refl, (refl, (refl, (refl, (refl, tt))))), ((refl, tt), tt))),
-                ),
-              ),
-            ),
-          ),
-        ),
-      ),
-    ),
-  );
-}
-
--- the last line omitted, after 16 lines of an input
-abbrev cut : List ℕ
-cut =
-    codes
-    "CERT 1 PAIR 1 ROWS 4 COLS 4 COST 1200 START 0\nWORD VHVHVHVH\n0 200 500 700 800\n200 300 500 800 1000\n300 500 600 800 1100\n500 800 800 900 1100\n600 800 1100 1100 1200\n800 900 1100 1400 1400\n1100 1100 1200 1400 1700\n1300 1400 1400 1500 1700\n"
-
-stops : HasCertificateFault (kept_behind 16 cut) 26 27
-stops = inr (record {
-  past = refl;
-  begins =
-      begins_rows head squares.word 8 numbers good_head (omega arith, omega arith) (omega arith) refl (modest numbers tt)
-      (lines_of (kept_behind 16 cut)) (
-        (
-          refl,
-          (refl, (refl, (refl, (refl, (refl, (refl, (refl, (refl, (refl, (refl, (refl, tt))))))))))),
-        ),
-        (
-          (refl, (refl, tt)),
-          (
-            (refl, (refl, (refl, (refl, (refl, tt))))),
-            (
-              (refl, (refl, (refl, (refl, (refl, tt))))),
-              (
-                (refl, (refl, (refl, (refl, (refl, tt))))),
-                (
-                  (refl, (refl, (refl, (refl, (refl, tt))))),
-                  (
-                    (refl, (refl, (refl, (refl, (refl, tt))))),
-                    (
-                      (refl, (refl, (refl, (refl, (refl, tt))))),
-                      ((refl, (refl, (refl, (refl, (refl, tt))))), ((refl, (refl, (refl, (refl, (refl, tt))))), tt)),
-                    ),
-                  ),
-                ),
-              ),
-            ),
-          ),
-        ),
-      );
-  none =
-      λ C r. short_rows head squares.word 8 numbers (omega arith) C (lines_of (kept_behind 16 cut)) (
-        (refl, (refl, (refl, (refl, (refl, (refl, (refl, (refl, (refl, (refl, (refl, (refl, tt)))))))))))),
-        (
-          (refl, (refl, tt)),
-          (
-            (refl, (refl, (refl, (refl, (refl, tt))))),
-            (
-              (refl, (refl, (refl, (refl, (refl, tt))))),
-              (
-                (refl, (refl, (refl, (refl, (refl, tt))))),
-                (
-                  (refl, (refl, (refl, (refl, (refl, tt))))),
-                  (
-                    (refl, (refl, (refl, (refl, (refl, tt))))),
-                    (
-                      (refl, (refl, (refl, (refl, (refl, tt))))),
-                      ((refl, (refl, (refl, (refl, (refl, tt))))), ((refl, (refl, (refl, (refl, (refl, tt))))), tt)),
-                    ),
-                  ),
-                ),
-              ),
-            ),
-          ),
-        ),
-      ) r.match;
-})
-
--- no certificate at all
-nothing : HasCertificateFault (kept_behind 16 []) (last_line 16 []) 17
-nothing = inr (record { past = refl; begins = begins_none [] tt; none = λ C r. short_none C [] tt r.match })
-
--- a line after END
-abbrev more : List ℕ
-more =
-    codes
-    "CERT 1 PAIR 1 ROWS 4 COLS 4 COST 1200 START 0\nWORD VHVHVHVH\n0 200 500 700 800\n200 300 500 800 1000\n300 500 600 800 1100\n500 800 800 900 1100\n600 800 1100 1100 1200\n800 900 1100 1400 1400\n1100 1100 1200 1400 1700\n1300 1400 1400 1500 1700\nEND\n# nothing\nEND\n"
-
-one_more : HasCertificateFault (kept_behind 0 more) (last_line 0 more) 13
-one_more = inl (record {
-  before = kept_behind 0 text;
-  line = codes "END" ∷ [];
-  after = [];
-  split = refl;
-  begins =
-      begins_whole squares lawful (lines_of (kept_behind 0 text)) reads.match;
-  none =
-      stuck_past head squares.word numbers (codes "END" ∷ []) (lines_of (kept_behind 0 text)) reads.match;
-})
 
 -- a pair 0
 abbrev pair_0 : Line

@@ -4,8 +4,9 @@ ghost use Rattle.text_io.specs.Text.{lines};
 ghost use Rattle.strip_graph.specs.Certificates.{IsModest};
 ghost use Rattle.fku_types.specs.declared.fault.Fault.TheVariants.{CertForm, NoMemory};
 ghost use Rattle.cert_checker.specs.CertTexts.{CertParts, IsHead, IsWord, head_line, certificate_parts};
-ghost use Rattle.cert_checker.specs.CertReading.{kept_behind, last_line, ReadsAsCertificate, HasCertificateFault, IsCertMemory, IsCertificateFault, ReadsBackCertificate, TellsCertificateFault};
-ghost use Rattle.cert_checker.specs.LineSteps.{head_parts, HasRead, first_lines};
+ghost use Rattle.text_io.specs.Formats.{kept_behind, last_line, HasRead};
+ghost use Rattle.cert_checker.specs.CertReading.{ReadsAsCertificate, HasCertificateFault, IsCertMemory, IsCertificateFault, ReadsBackCertificate, TellsCertificateFault};
+ghost use Rattle.cert_checker.specs.LineSteps.{head_parts, first_lines};
 
 use crate::certs::{Cert, CertText};
 use crate::reading::{Head, is_end, read_head, read_row, read_word};

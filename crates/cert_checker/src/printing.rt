@@ -4,44 +4,23 @@ ghost use Rattle.std.specs.List.{flat_map};
 ghost use Rattle.std.specs.Fmt.{signed_decimal};
 ghost use Rattle.text_io.specs.WordLists.{line_text};
 ghost use Rattle.cert_checker.specs.CertTexts.{IsLawfulCertificate, letter, head_line, word_line, row_line, rows_in, cert_text, certificate_parts};
-ghost use Rattle.cert_checker.specs.CertReading.{kept_behind, ReadsAsCertificate};
+ghost use Rattle.text_io.specs.Formats.{kept_behind};
+ghost use Rattle.cert_checker.specs.CertReading.{ReadsAsCertificate};
 ghost use Rattle.cert_checker.specs.LineSteps.{after_blank};
 
 use crate::certs::CertText;
 use fku_types::NoMemory;
 use fku_types::limits::MAX_CHECK_BYTES;
-use itoa::Buffer;
 use std::alloc::{AllocError, Global};
 use strip_graph::Step;
-use text_io::written_lines_are_read;
-
-fn put(out: &mut Vec<u8>, bytes: &[u8]) -> Result<(), AllocError>
-    ensures { OnOk result (out.new.items ≡ out.old.items ++ bytes.now) }
-{
-    out.extend_from_slice(bytes)?;
-    Ok(())
-}
-
-fn put_count(out: &mut Vec<u8>, count: u32) -> Result<(), AllocError>
-    ensures { OnOk result (out.new.items ≡ out.old.items ++ decimal count) }
-{
-    let mut buffer = Buffer::new();
-    put(out, buffer.format(count).as_bytes())
-}
-
-fn put_value(out: &mut Vec<u8>, value: &i128) -> Result<(), AllocError>
-    ensures { OnOk result (out.new.items ≡ out.old.items ++ signed_decimal value.now) }
-{
-    let mut buffer = Buffer::new();
-    put(out, buffer.format(*value).as_bytes())
-}
+use text_io::{put, put_count, put_long, written_lines_are_read};
 
 // Some words, and a count after them.
 fn put_labelled(out: &mut Vec<u8>, label: &[u8], count: u32) -> Result<(), AllocError>
     ensures { OnOk result (out.new.items ≡ out.old.items ++ (label.now ++ decimal count)) }
 {
     put(out, label)?;
-    put_count(out, count)
+    put_count(out, count as usize)
 }
 
 // The first line up to the number of columns.
@@ -69,7 +48,7 @@ fn put_start(out: &mut Vec<u8>, text: &CertText) -> Result<(), AllocError>
         ++ (codes " START " ++ (decimal text.now.cert.tiling.row ++ codes "\n"))))) }
 {
     put(out, b" COST ")?;
-    put_value(out, &text.cert.cost)?;
+    put_long(out, &text.cert.cost)?;
     put_labelled(out, b" START ", text.cert.tiling.row)?;
     put(out, b"\n")
 }
@@ -115,7 +94,7 @@ fn put_more(out: &mut Vec<u8>, values: &[i128]) -> Result<(), AllocError>
 {
     for value in values {
         out.push(b' ')?;
-        put_value(out, value)?;
+        put_long(out, value)?;
     }
     Ok(())
 }
@@ -126,7 +105,7 @@ fn put_row(out: &mut Vec<u8>, row: &[i128]) -> Result<(), AllocError>
     let Some((first, more)) = row.split_first() else {
         return put(out, b"\n");
     };
-    put_value(out, first)?;
+    put_long(out, first)?;
     put_more(out, more)?;
     put(out, b"\n")
 }

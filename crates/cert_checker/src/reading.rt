@@ -1,17 +1,17 @@
 //! What each line of a certificate's text says, line by line.
-ghost use Rattle.std.specs.Prelude.{◌≡◌, ℕ, ◌≤◌, ◌<◌, List, drop, length, map, IfOk, MatchOption, MatchBool, bytes_eq};
+ghost use Rattle.std.specs.Prelude.{◌≡◌, ℕ, ◌≤◌, ◌<◌, List, length, map, IfOk, MatchOption, MatchBool};
 ghost use Rattle.text_io.specs.Text.{words};
 ghost use Rattle.text_io.specs.WordLists.{Matches};
 ghost use Rattle.strip_graph.specs.Certificates.{IsModest};
 ghost use Rattle.strip_graph.specs.declared.tilings.Step.{Step};
 ghost use Rattle.std.specs.Prelude.{ℤ, pos};
 ghost use Rattle.cert_checker.specs.CertTexts.{CertHead, IsHead, IsWord, IsValueRow, letter, head_line, word_line, row_line, certificate_end};
-ghost use Rattle.cert_checker.specs.LineSteps.{IsCount, IsValue, IsAfterKeyword, NoneBehind, HasNumberAfter, NoneNamed, IsBetween, head_parts, PutsRow};
+ghost use Rattle.cert_checker.specs.LineSteps.{IsValue, HasNumberAfter, NoneNamed, IsBetween, head_parts, PutsRow};
 
 use fku_types::limits::{MAX_COMPOSITE_VERTICES, MAX_PAIRS, MAX_START_ROW, MAX_STEPS};
 use std::alloc::{AllocError, Global};
 use strip_graph::Step;
-use text_io::{Number, WordSpan, read_number, word_at};
+use text_io::{Number, after_keyword, read_number, split_count, split_word};
 
 /// The first line of a certificate's text: a pair by its number, its rows and columns, the cost and the start row.
 #[derive(Clone, Copy)]
@@ -21,32 +21,6 @@ pub struct Head {
     pub cols: u32,
     pub cost: i128,
     pub start: u32,
-}
-
-/// A number in a line, and where its word ends.
-#[derive(Clone, Copy)]
-struct Count {
-    value: u32,
-    end: usize,
-}
-
-/// A number up to `MAX_NUMBER` in a line, and where its word ends.
-#[derive(Clone, Copy)]
-struct Value {
-    value: i128,
-    end: usize,
-}
-
-// The integer that a word says, if it is in its range.
-fn count_of(word: &[u8], least: u32, most: u32) -> Option<u32>
-    ensures { MatchOption result ((n : ℕ) → IsCount word.now least most n → ⊥) (IsCount word.now least most) }
-{
-    match read_number(word) {
-        Some(Number::Value(value)) if i128::from(least) <= value && value <= i128::from(most) => {
-            Some(value as u32)
-        }
-        _ => None,
-    }
 }
 
 // The number that a word says, if it is at most `MAX_NUMBER` in absolute value.
@@ -59,62 +33,39 @@ fn value_of(word: &[u8]) -> Option<i128>
     }
 }
 
-fn is(word: &[u8], keyword: &[u8]) -> bool
-    ensures { result ≡ bytes_eq word.now keyword.now }
+// The integer after a keyword, if it is in its range, and the part of the line after it.
+fn count_behind<'a>(
+    line: &'a [u8],
+    keyword: &[u8],
+    least: u32,
+    most: u32,
+) -> Option<(u32, &'a [u8])>
+    ensures { MatchOption result (NoneNamed (IsBetween least most) (words line.now) keyword.now) (λ c.
+        (least ≤ c.0)
+        × (c.0 ≤ most)
+        × HasNumberAfter (words line.now) keyword.now (pos c.0) (words c.1.now)) }
 {
-    word == keyword
-}
-
-// Where the word after a keyword lies, if the part of a line from a byte on begins with this keyword.
-fn behind(line: &[u8], at: usize, keyword: &[u8]) -> Option<WordSpan>
-    requires { at ≤ length line.now }
-    ensures { MatchOption result (NoneBehind (words (drop at line.now)) keyword.now) (λ w.
-        IsAfterKeyword line.now at keyword.now w.first w.end) }
-{
-    let Some(name) = word_at(line, at) else {
+    let Some(rest) = after_keyword(line, keyword) else {
         return None;
     };
-    if !is(&line[name.first..name.end], keyword) {
+    split_count(rest, least, most)
+}
+
+// The number after a keyword, if it is at most `MAX_NUMBER` in absolute value, and the part of the line after it.
+fn value_behind<'a>(line: &'a [u8], keyword: &[u8]) -> Option<(i128, &'a [u8])>
+    ensures { MatchOption result (NoneNamed IsModest (words line.now) keyword.now) (λ v.
+        IsModest v.0 × HasNumberAfter (words line.now) keyword.now v.0 (words v.1.now)) }
+{
+    let Some(rest) = after_keyword(line, keyword) else {
         return None;
+    };
+    let Some((word, rest)) = split_word(rest) else {
+        return None;
+    };
+    match value_of(word) {
+        Some(value) => Some((value, rest)),
+        None => None,
     }
-    word_at(line, name.end)
-}
-
-// The integer after a keyword, if it is in its range.
-fn count_behind(line: &[u8], at: usize, keyword: &[u8], least: u32, most: u32) -> Option<Count>
-    requires { at ≤ length line.now }
-    ensures { MatchOption result (NoneNamed (IsBetween least most) (words (drop at line.now)) keyword.now) (λ c.
-        (c.end ≤ length line.now)
-        × (least ≤ c.value)
-        × (c.value ≤ most)
-        × HasNumberAfter (words (drop at line.now)) keyword.now (pos c.value) (words (drop c.end line.now))) }
-{
-    let Some(word) = behind(line, at, keyword) else {
-        return None;
-    };
-    let Some(value) = count_of(&line[word.first..word.end], least, most) else {
-        return None;
-    };
-    let end = word.end;
-    Some(Count { value, end })
-}
-
-// The number after a keyword, if it is at most `MAX_NUMBER` in absolute value.
-fn value_behind(line: &[u8], at: usize, keyword: &[u8]) -> Option<Value>
-    requires { at ≤ length line.now }
-    ensures { MatchOption result (NoneNamed IsModest (words (drop at line.now)) keyword.now) (λ v.
-        (v.end ≤ length line.now)
-        × IsModest v.value
-        × HasNumberAfter (words (drop at line.now)) keyword.now v.value (words (drop v.end line.now))) }
-{
-    let Some(word) = behind(line, at, keyword) else {
-        return None;
-    };
-    let Some(value) = value_of(&line[word.first..word.end]) else {
-        return None;
-    };
-    let end = word.end;
-    Some(Value { value, end })
 }
 
 /// What the first line of a certificate's text says; none for any other line.
@@ -122,32 +73,32 @@ pub fn read_head(line: &[u8]) -> Option<Head>
     ensures { MatchOption result ((h : CertHead) → IsHead h → Matches (words line.now) (head_line h) → ⊥) (λ h.
         IsHead (head_parts h) × Matches (words line.now) (head_line (head_parts h))) }
 {
-    let Some(version) = count_behind(line, 0, b"CERT", 1, 1) else {
+    let Some((_, line)) = count_behind(line, b"CERT", 1, 1) else {
         return None;
     };
-    let Some(pair) = count_behind(line, version.end, b"PAIR", 1, MAX_PAIRS) else {
+    let Some((pair, line)) = count_behind(line, b"PAIR", 1, MAX_PAIRS) else {
         return None;
     };
-    let Some(rows) = count_behind(line, pair.end, b"ROWS", 3, MAX_COMPOSITE_VERTICES) else {
+    let Some((rows, line)) = count_behind(line, b"ROWS", 3, MAX_COMPOSITE_VERTICES) else {
         return None;
     };
-    let Some(cols) = count_behind(line, rows.end, b"COLS", 3, MAX_COMPOSITE_VERTICES) else {
+    let Some((cols, line)) = count_behind(line, b"COLS", 3, MAX_COMPOSITE_VERTICES) else {
         return None;
     };
-    let Some(cost) = value_behind(line, cols.end, b"COST") else {
+    let Some((cost, line)) = value_behind(line, b"COST") else {
         return None;
     };
-    let Some(start) = count_behind(line, cost.end, b"START", 0, MAX_START_ROW) else {
+    let Some((start, line)) = count_behind(line, b"START", 0, MAX_START_ROW) else {
         return None;
     };
-    match word_at(line, start.end) {
+    match split_word(line) {
         Some(_) => None,
         None => Some(Head {
-            pair: pair.value,
-            rows: rows.value,
-            cols: cols.value,
-            cost: cost.value,
-            start: start.value,
+            pair,
+            rows,
+            cols,
+            cost,
+            start,
         }),
     }
 }
@@ -187,12 +138,15 @@ pub fn read_word(alloc: Global, line: &[u8]) -> Result<Option<Vec<Step>>, AllocE
         MatchOption o ((w : List Step) → IsWord w → Matches (words line.now) (word_line w) → ⊥) (λ v.
         IsWord v.items × Matches (words line.now) (word_line v.items))) }
 {
-    let Some(letters) = behind(line, 0, b"WORD") else {
+    let Some(rest) = after_keyword(line, b"WORD") else {
         return Ok(None);
     };
-    match word_at(line, letters.end) {
+    let Some((letters, rest)) = split_word(rest) else {
+        return Ok(None);
+    };
+    match split_word(rest) {
         Some(_) => Ok(None),
-        None => steps_of(alloc, &line[letters.first..letters.end]),
+        None => steps_of(alloc, letters),
     }
 }
 
@@ -202,18 +156,18 @@ pub fn read_row(values: &mut Vec<i128>, line: &[u8], width: usize) -> Result<boo
         MatchBool b (PutsRow (words line.now) width values.old.items values.new.items)
         ((row : List ℤ) → IsValueRow width row → Matches (words line.now) (row_line row) → ⊥)) }
 {
-    let mut at = 0;
+    let mut rest = line;
     for _done in 0..width {
-        let Some(word) = word_at(line, at) else {
+        let Some((word, more)) = split_word(rest) else {
             return Ok(false);
         };
-        let Some(value) = value_of(&line[word.first..word.end]) else {
+        let Some(value) = value_of(word) else {
             return Ok(false);
         };
         values.push(value)?;
-        at = word.end;
+        rest = more;
     }
-    match word_at(line, at) {
+    match split_word(rest) {
         Some(_) => Ok(false),
         None => Ok(true),
     }
@@ -223,14 +177,8 @@ pub fn read_row(values: &mut Vec<i128>, line: &[u8], width: usize) -> Result<boo
 pub fn is_end(line: &[u8]) -> bool
     ensures { MatchBool result (Matches (words line.now) certificate_end) (Matches (words line.now) certificate_end → ⊥) }
 {
-    let Some(word) = word_at(line, 0) else {
-        return false;
-    };
-    if !is(&line[word.first..word.end], b"END") {
-        return false;
-    }
-    match word_at(line, word.end) {
-        Some(_) => false,
-        None => true,
+    match after_keyword(line, b"END") {
+        Some(rest) => split_word(rest).is_none(),
+        None => false,
     }
 }

@@ -1,5 +1,5 @@
 -- A text of objects has four kept lines without fault, so memory may run out behind them.
-use Rattle.std.proofs.Common.{◌≤◌, ℕ, List, [], ◌∷◌, length, append-nil, Result, Ok, Err, sym, subst, arith, length-append}
+use Rattle.std.proofs.Common.{◌≤◌, ℕ, List, [], ◌∷◌, length, Result, Ok, Err, sym, subst, arith, length-append}
 use Rattle.std.specs.Prelude.{IfErr}
 use Rattle.std.specs.List.{flat_map}
 use Rattle.std.proofs.lemmas.List.{length-map}
@@ -15,6 +15,7 @@ use Rattle.section_core.specs.Reading.{HasFile}
 use Rattle.section_core.specs.Texts.{IsTextOfFile}
 use Rattle.section_text.specs.Fronts.{HasFourLines, IsObjectsFrontOf, IsReadMemory}
 use Rattle.section_text.specs.declared.front.ObjectsFront.{ObjectsFront}
+use Rattle.text_io.proofs.FormatLaws.{begins_whole}
 use Rattle.section_text.proofs.FourLines.{four_of}
 
 four_kept : (latest : Version) (kept : List Kept) (F : FileParts) (tail : List Kept) → HasFile latest kept F tail
@@ -29,17 +30,7 @@ four_kept latest kept F tail h =
     ) in
     subst (HasFourLines latest) (sym h.split)
     (four_of latest h.front tail enough
-    (record {
-      parts = F;
-      is_file = h.is_file;
-      known = h.known;
-      keeps = h.lawful;
-      front = lines;
-      rest = [];
-      split =
-          sym (append-nil lines);
-      match = h.match;
-    }))
+    (begins_whole F (record { is_file = h.is_file; known = h.known; keeps = h.lawful }) (lines_of h.front) h.match))
 
 late : {T : Type 0} (bytes : List ℕ) (r : Result T Fault) → HasFourLines Two (kept_lines bytes)
     → IfErr r (IsReadMemory Two bytes)

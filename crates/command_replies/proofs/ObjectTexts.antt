@@ -13,8 +13,8 @@ use Rattle.section_core.specs.ValidSections.{section_of}
 use Rattle.section_pairs.specs.declared.gap_pairs.GapPair.{GapPair}
 use Rattle.section_pairs.specs.Pairs.{PairParts, pair_parts}
 use Rattle.section_pairs.specs.SectionFaults.{ArePairs, AreSound, OrNoMemory}
-use Rattle.surface_core.specs.Objects.{AreAllPairs, IsFoundIn, IsLateMemoryIn, alone, numbered, objects_in, pair_lists, sections_in}
-use Rattle.surface_core.proofs.ObjectSteps.{zip_at, zip_length}
+use Rattle.surface_core.specs.Objects.{AreAllPairs, IsFoundIn, IsLateMemoryIn, numbered, objects_in, pair_lists, sections_in}
+use Rattle.surface_core.proofs.ObjectSteps.{zip_at}
 use Rattle.command_replies.specs.Stages.{AreSeveral, found}
 
 -- a list of one item has it last
@@ -62,19 +62,6 @@ numbered_more all new list rest left whole before next more =
 pub object_count : (F : FileParts) (items : List Object) → map object_parts items ≡ F.objects
     → length items ≡ length F.objects
 object_count F items e = sym (length-map items object_parts) ∙ ap length e
-
--- there is a list of pairs for each object
-pub list_count : (F : FileParts) (items : List Object) (lists : List (Vec GapPair Global))
-    → map object_parts items ≡ F.objects → AreAllPairs F (pair_lists lists) → length items ≡ length lists
-list_count F items lists e pairs =
-    let all = zip_length ArePairs (objects_in F) (pair_lists lists) pairs in
-    omega (
-      arith,
-      all,
-      object_count F items e,
-      length-map F.objects (alone F),
-      length-map lists (λ (v : Vec GapPair Global). map pair_parts v.items),
-    )
 
 -- the object of the code at a place is that of the text
 pub part_at : (F : FileParts) (items : List Object) (i : ℕ) (o : Object) → map object_parts items ≡ F.objects

@@ -9,4 +9,4 @@ mod text;
 pub use answers::{Answer, AnswerText, RefusalLine, refusal_line, refused};
 pub use objects::{numbered_pairs, objects_in, only_sections};
 pub use status::Status;
-pub use text::{put, put_count, put_number, put_object};
+pub use text::put_object;

@@ -13,7 +13,7 @@ ghost use Rattle.correspondence.specs.Named.{IsLinkTableOf, above_of};
 
 use crate::bounds::Bounds;
 use crate::link_table::{LinkTable, is_among};
-use crate::nesting::depths;
+use crate::nesting::{depths, have_same_parity};
 use crate::overlaps::overlap_within;
 use fku_types::{NoMemory, PairRule};
 use section_core::{Contour, Section};
@@ -36,7 +36,7 @@ fn are_alike(
     ensures { IsTrue result
         ↔ ((same_parity low_depth high_depth ≡ true) × Overlap (points_of low.now) (points_of high.now)) }
 {
-    low_depth % 2 == high_depth % 2
+    have_same_parity(low_depth, high_depth)
         && overlap_within(&low.points, low_bounds, &high.points, high_bounds)
 }
 

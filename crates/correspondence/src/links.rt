@@ -11,7 +11,7 @@ ghost use Rattle.correspondence.specs.Links.{names_of, depths_of, contour_place_
 
 use crate::contour_places::{ContourPlace, all_contour_places, find_contour_place};
 use crate::linked_names::{LinkedNames, add_linked_names, has_linked_names};
-use crate::nesting::depths;
+use crate::nesting::{depths, have_same_parity};
 use fku_types::{Fault, LinkCause, Name, NoMemory};
 use indexmap::{IndexMap, IndexSet};
 use section_core::{Link, Section, Sections};
@@ -50,7 +50,7 @@ fn cause_between(
 {
     if u64::from(high.section) != u64::from(low.section) + 1 {
         Some(LinkCause::NotNeighbours)
-    } else if depth_at(depths, low) % 2 != depth_at(depths, high) % 2 {
+    } else if !have_same_parity(depth_at(depths, low), depth_at(depths, high)) {
         Some(LinkCause::DepthDiffers)
     } else if again {
         Some(LinkCause::Repeated)

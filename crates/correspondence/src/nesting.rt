@@ -6,6 +6,7 @@ ghost use Rattle.fku_types.specs.Points.{IsInRange};
 ghost use Rattle.plane_geom.specs.Nesting.{CountedAmong, Inside, is_inside};
 ghost use Rattle.plane_geom.specs.RingViews.{ring_view, ring_views, IsContour};
 ghost use Rattle.correspondence.specs.Bounding.{Encloses};
+ghost use Rattle.correspondence.specs.Correspondences.{same_parity};
 ghost use Rattle.correspondence.specs.Groups.{IsBoundedGroup, AreGroups};
 ghost use Rattle.correspondence.specs.Contours.{IsOutline, AreOutlines, points_of, point_lists, contour_at};
 ghost use Rattle.correspondence.specs.Nesting.{lies_in, LiesIn, depth, depths, AreDepths, IsDepthAmong, is_turned, turned, ring_from, oriented};
@@ -141,6 +142,14 @@ pub fn depths(alloc: Global, section: &Section) -> Result<Vec<u32>, NoMemory>
         depths.push(depth(contours, &groups, place))?;
     }
     Ok(depths)
+}
+
+/// Whether two depths are both those of outer contours, or both those of holes. Takes no memory.
+#[inline(always)]
+pub fn have_same_parity(low: u32, high: u32) -> bool
+    ensures { result ≡ same_parity low high }
+{
+    low % 2 == high % 2
 }
 
 fn is_turned(depth: u32, points: &[Point]) -> bool

@@ -6,53 +6,24 @@ use Rattle.section_core.specs.Parts.{span}
 use Rattle.fku_types.specs.declared.rules.PairRule.TheVariants.{Overlap}
 use Rattle.demo_stack.specs.Demo.{state_after, radius, place, name, direction, demo_vertex, demo}
 
-pub state-first : state_after 7 1 ≡ 1282168116
+states : (state_after 7 1 ≡ 1282168116) × (state_after 7 2 ≡ 642666333) × (state_after 7 3 ≡ 712265938)
 unfolding state_after
-state-first = refl
-
-pub state-second : state_after 7 2 ≡ 642666333
-unfolding state_after
-state-second = refl
-
-pub state-third : state_after 7 3 ≡ 712265938
-unfolding state_after
-state-third = refl
-
-pub radius-first : radius 1282168116 ≡ 164
-radius-first = refl
+states = (refl, refl, refl)
 
 -- the corners of the square, and the last place of each side
-pub direction-lower_right : direction 0 ≡ (pos 1000, negsuc 999)
-direction-lower_right = refl
-
-pub direction-right : direction 1999 ≡ (pos 1000, pos 999)
-direction-right = refl
-
-pub direction-upper_right : direction 2000 ≡ (pos 1000, pos 1000)
-direction-upper_right = refl
-
-pub direction-top : direction 3999 ≡ (negsuc 998, pos 1000)
-direction-top = refl
-
-pub direction-upper_left : direction 4000 ≡ (negsuc 999, pos 1000)
-direction-upper_left = refl
-
-pub direction-left : direction 5999 ≡ (negsuc 999, negsuc 998)
-direction-left = refl
-
-pub direction-lower_left : direction 6000 ≡ (negsuc 999, negsuc 999)
-direction-lower_left = refl
-
-pub direction-bottom : direction 7999 ≡ (pos 999, negsuc 999)
-direction-bottom = refl
+directions : (direction 0 ≡ (pos 1000, negsuc 999)) × (direction 1999 ≡ (pos 1000, pos 999))
+    × (direction 2000 ≡ (pos 1000, pos 1000)) × (direction 3999 ≡ (negsuc 998, pos 1000))
+    × (direction 4000 ≡ (negsuc 999, pos 1000)) × (direction 5999 ≡ (negsuc 999, negsuc 998))
+    × (direction 6000 ≡ (negsuc 999, negsuc 999)) × (direction 7999 ≡ (pos 999, negsuc 999))
+directions = (refl, refl, refl, refl, refl, refl, refl, refl)
 
 -- the first vertex of seed 7
-pub vertex-first : demo_vertex 7 100 0 0 ≡ (pos 164000, negsuc 163999)
+vertex : demo_vertex 7 100 0 0 ≡ (pos 164000, negsuc 163999)
 unfolding state_after
-vertex-first = refl
+vertex = refl
 
 -- a whole stack of one triangle
-pub triangle : demo 7 1 3 ≡ record {
+triangle : demo 7 1 3 ≡ record {
   cost = span;
   rule = Overlap;
   sections = record {
@@ -76,8 +47,9 @@ unfolding digits
 names = (refl, refl, refl, refl)
 
 -- the least and the greatest radius
-radii : (radius 0 ≡ 100) × (radius 65535 ≡ 100) × (radius 65536 ≡ 101) × (radius 6553599 ≡ 199) × (radius 6553600 ≡ 100)
-radii = (refl, refl, refl, refl, refl)
+radii : (radius 1282168116 ≡ 164) × (radius 0 ≡ 100) × (radius 65535 ≡ 100) × (radius 65536 ≡ 101)
+    × (radius 6553599 ≡ 199) × (radius 6553600 ≡ 100)
+radii = (refl, refl, refl, refl, refl, refl)
 
 -- places are rounded down
 places : (place 0 7 ≡ 0) × (place 1 7 ≡ 1142) × (place 6 7 ≡ 6857) × (place 999 1000 ≡ 7992)

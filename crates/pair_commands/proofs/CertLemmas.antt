@@ -11,7 +11,8 @@ use Rattle.pair_pool.specs.Solvers.{SolvesEach}
 use Rattle.strip_potential.specs.Rows.{HasRows}
 use Rattle.cert_checker.specs.declared.certs.CertText.{CertText}
 use Rattle.cert_checker.specs.CertTexts.{CertParts, IsLawfulCertificate, cert_text, certificate_parts}
-use Rattle.cert_checker.specs.CertReading.{ReadsAsCertificate, kept_behind}
+use Rattle.text_io.specs.Formats.{kept_behind}
+use Rattle.cert_checker.specs.CertReading.{ReadsAsCertificate}
 use Rattle.cert_checker.specs.Verdicts.{Holds}
 use Rattle.command_replies.specs.Reply.{told}
 use Rattle.pair_commands.specs.Certify.{TellsCert, certificate}

@@ -10,7 +10,8 @@ use Rattle.section_pairs.specs.SectionFaults.{OrNoMemory}
 use Rattle.text_io.proofs.TextLemmas.{lines_first}
 use Rattle.section_text.specs.Fronts.{IsUsed, after_lines}
 use Rattle.cert_checker.specs.CertTexts.{CertParts}
-use Rattle.cert_checker.specs.CertReading.{ReadsAsCertificate, kept_behind, last_line, IsCertFault, IsCertificateFault}
+use Rattle.text_io.specs.Formats.{kept_behind, last_line}
+use Rattle.cert_checker.specs.CertReading.{ReadsAsCertificate, IsCertFault, IsCertificateFault}
 
 one_less : (text : List ℕ) → length (lines (after_line text)) ≡ length (lines text) - 1
 one_less [] = refl

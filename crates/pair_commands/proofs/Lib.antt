@@ -6,5 +6,3 @@ pub mod PairGroups
 pub mod GoodMarks
 pub mod MarkGroups
 pub mod MarkTexts
-mod WorkedMarks
-mod Worked

@@ -8,7 +8,7 @@ use Rattle.text_io.specs.WordLists.{Word, number, Matches, Line, Kept}
 use Rattle.fku_types.specs.declared.fault.Fault.TheVariants.{MarkForm}
 use Rattle.pair_commands.specs.declared.mark_lines.PairMark.{PairMark}
 use Rattle.pair_commands.specs.Landmarks.{mark_line, SaysMark, AreMarks, IsMarkLine, IsFormFault}
-use Rattle.pair_commands.specs.MarkReading.{IsFirstCount, HasNoCount, MarksSoFar}
+use Rattle.pair_commands.specs.MarkReading.{MarksSoFar}
 
 -- the words of a mark's line from each number on
 abbrev pub from_col : PairMark → List Word
@@ -19,24 +19,6 @@ from_row x = number (pos x.mark.row) ∷ from_col x
 
 abbrev pub from_pair : PairMark → List Word
 from_pair x = number (pos x.pair) ∷ from_row x
-
-pub keyword_none : (ws : Line) (x : PairMark) → ((more : Line) → ws ≡ codes "MARK" ∷ more → ⊥)
-    → Matches ws (mark_line x) → ⊥
-keyword_none [] x none m = absurd m
-keyword_none (w ∷ ws) x none m = none ws (ap (λ (v : List ℕ). v ∷ ws) m.0)
-
-pub keyword_tail : (ws more : Line) (x : PairMark) → ws ≡ codes "MARK" ∷ more → Matches ws (mark_line x)
-    → Matches more (from_pair x)
-keyword_tail ws more x e m = (subst (λ (v : Line). Matches v (mark_line x)) e m).1
-
-pub count_none : (ws : Line) (least n : ℕ) (ps : List Word) → HasNoCount ws least → least ≤ n → n < 2 ^ 32
-    → Matches ws (number (pos n) ∷ ps) → ⊥
-count_none [] least n ps none l u m = absurd m
-count_none (w ∷ ws) least n ps none l u m = none n ws (record { word = w; words = refl; says = (m.0, l, u) })
-
-pub count_tail : (ws more : Line) (least n : ℕ) (z : ℤ) (ps : List Word) → IsFirstCount ws least n more
-    → Matches ws (number z ∷ ps) → Matches more ps
-count_tail ws more least n z ps f m = (subst (λ (v : Line). Matches v (number z ∷ ps)) f.words m).1
 
 -- a line has at most as many words as bytes
 onto_few : (b : ℕ) (parts : List (List ℕ)) → length (onto_first b parts) ≤ 1 + length parts

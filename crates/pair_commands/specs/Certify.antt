@@ -6,7 +6,8 @@ use Rattle.strip_graph.specs.Certificates.{Certifies}
 use Rattle.row_paths.specs.Solutions.{Solution, Solves}
 use Rattle.strip_potential.specs.Rows.{HasRows}
 use Rattle.cert_checker.specs.CertTexts.{CertParts, cert_text}
-use Rattle.cert_checker.specs.CertReading.{ReadsAsCertificate, kept_behind}
+use Rattle.text_io.specs.Formats.{kept_behind}
+use Rattle.cert_checker.specs.CertReading.{ReadsAsCertificate}
 use Rattle.command_replies.specs.Reply.{Reply, Then, NoFault, Tells}
 use Rattle.command_replies.specs.Stages.{on_numbered}
 use Rattle.pair_commands.specs.OnePair.{on_pair}

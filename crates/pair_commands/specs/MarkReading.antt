@@ -18,19 +18,6 @@ use Rattle.section_pairs.specs.Pairs.{PairParts}
 use Rattle.pair_commands.specs.declared.mark_lines.PairMark.{PairMark}
 use Rattle.pair_commands.specs.Landmarks.{AreMarks, IsToldOf, marks_of, marked_text, AreGoodMarks, SolvesPair, AreSolved, if_marked, marked_from, all_text, landmarks_text}
 
--- the word says this integer, from least to 4,294,967,295
-abbrev pub SaysCount : List ℕ → ℕ → ℕ → Type 0
-SaysCount word least n = (number_of word ≡ Some (pos n)) × (least ≤ n) × (n < 2 ^ 32)
-
--- the first of some words says this number, and these are the words after it
-pub record IsFirstCount (ws : Line) (least n : ℕ) (more : Line) : Type 0 where
-  pub word : List ℕ
-  pub words : ws ≡ word ∷ more
-  pub says : SaysCount word least n
-
-abbrev pub HasNoCount : Line → ℕ → Type 0
-HasNoCount ws least = (n : ℕ) (more : Line) → IsFirstCount ws least n more → ⊥
-
 -- the kept lines that were read say these marks, and the others are left
 pub record MarksSoFar (tail : List Kept) (marks : List PairMark) (left : List Kept) : Type 0 where
   pub done : List Kept

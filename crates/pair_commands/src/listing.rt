@@ -10,7 +10,7 @@ ghost use Rattle.command_replies.specs.Stages.{on_objects};
 ghost use Rattle.pair_commands.specs.Tilings.{contours_at, blank_and_name, names_text, number_text, members_text, counts_text, pair_text, pairs_text, tilings, tilings_text};
 
 use cert_checker::put_letters;
-use command_replies::{objects_in, put, put_count, put_object};
+use command_replies::{objects_in, put_object};
 use fku_types::limits::MAX_CHECK_BYTES;
 use fku_types::{Fault, NoMemory};
 use pair_pool::PairSolver;
@@ -19,6 +19,7 @@ use section_core::{Contour, Objects, Section};
 use section_pairs::GapPair;
 use std::alloc::{AllocError, Global};
 use surface_core::{all_strips, pairs_all};
+use text_io::{put, put_count};
 
 fn contours_at(sections: &[Section], place: usize) -> &[Contour]
     ensures { map contour_parts result.now ≡ contours_at (map section_parts sections.now) place }

@@ -16,7 +16,7 @@ ghost use Rattle.pair_commands.specs.MarkReading.{AreGrouped, IsCauseOf, IsLandm
 
 use crate::mark_lines::{PairMark, marks_behind};
 use cert_checker::{put_letters, put_rows};
-use command_replies::{numbered_pairs, put, put_count};
+use command_replies::numbered_pairs;
 use fku_types::limits::{MAX_INPUT_BYTES, MAX_MARKS};
 use fku_types::{Fault, NoMemory};
 use landmarks::{Mark, MarkFault, Marked, Piece, solve_marked, test_mark};
@@ -24,6 +24,7 @@ use section_pairs::GapPair;
 use section_text::parse_objects;
 use std::alloc::{AllocError, Global};
 use strip_graph::Pair;
+use text_io::{put, put_count};
 
 // The fault of an input for a fault of a mark.
 fn told(x: PairMark, cause: &MarkFault) -> Fault

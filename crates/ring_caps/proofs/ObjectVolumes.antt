@@ -1,4 +1,5 @@
--- The six volumes of the surfaces of objects with caps of groups are those of the plain ones.
+-- The triangles of surfaces have three ids; the six volumes of the surfaces of objects with caps of groups are those of
+-- the plain ones.
 use Rattle.std.proofs.Common.{◌≡◌, ℕ, ◌+◌, ◌==◌, if◌then◌else◌, Bool, true, false, List, [], ◌∷◌, ◌++◌, length, flat_map, sum_by, ℤ, ◌+ℤ◌, refl, sym, ap, ap₂, ◌∙◌, subst, All, Vec}
 use Rattle.std.specs.Global.{Global}
 use Rattle.std.specs.List.{AllByRecursion, AllZip, range_with_len}
@@ -58,12 +59,12 @@ strips_three s (p ∷ ps) (x ∷ xs) =
     chosen true = tiles_three p.strip.low_ids p.strip.high_ids x.row 0 x.word
     chosen false = tt
 
-flat_three : (f : ℕ → List (List ℕ)) → ((s : ℕ) → AllByRecursion HasThree (f s)) → (ks : List ℕ)
+pub flat_three : (f : ℕ → List (List ℕ)) → ((s : ℕ) → AllByRecursion HasThree (f s)) → (ks : List ℕ)
     → AllByRecursion HasThree (flat_map f ks)
 flat_three f h [] = tt
 flat_three f h (k ∷ ks) = all_join HasThree (f k) (flat_map f ks) (h k) (flat_three f h ks)
 
-plain_three : (S : Parts) (ps : List PairParts) (xs : List Solution) → Stack S ps xs → (s : ℕ)
+pub plain_three : (S : Parts) (ps : List PairParts) (xs : List Solution) → Stack S ps xs → (s : ℕ)
     → AllByRecursion HasThree (section_triangles S ps xs s)
 plain_three S ps xs h s =
     let ends : Face → List RingView = λ face. open_on face (rings_at S s) ps s in
@@ -72,7 +73,7 @@ plain_three S ps xs h s =
     all_join HasThree (caps_on Below (ends Below)) (caps_on Above (ends Above) ++ strip_triangles s ps xs) (caps Below)
     (all_join HasThree (caps_on Above (ends Above)) (strip_triangles s ps xs) (caps Above) (strips_three s ps xs))
 
-ring_three : (S : Parts) (ps : List PairParts) (xs : List Solution) → Stack S ps xs → (s : ℕ)
+pub ring_three : (S : Parts) (ps : List PairParts) (xs : List Solution) → Stack S ps xs → (s : ℕ)
     → AllByRecursion HasThree (ring_section S ps xs s)
 ring_three S ps xs h s =
     let rings = rings_at S s in

@@ -4,8 +4,8 @@ use Rattle.std.proofs.lemmas.Bool.{cases_lt, cases_eq}
 use Rattle.std.proofs.lemmas.List.{get_or_append_left, get_or-append-add}
 use Rattle.std.proofs.lemmas.Int.{ints}
 use Rattle.round_sweeps.specs.Columns.{start_limit, value_limit, at_row, AreRowsBounded}
-use Rattle.round_sweeps.specs.Searches.{gone, way_of, numbers_from, AreSumsOf, IsWindow, IsBackTo, IsBackColumn}
-use Rattle.round_sweeps.proofs.ColumnLaws.{written, kept}
+use Rattle.round_sweeps.specs.Searches.{gone, way_of, numbers_from, AreSumsOf, IsWindow, IsStepChosen, IsPlaceSearched, IsBackTo, IsBackColumn}
+use Rattle.round_sweeps.proofs.ColumnLaws.{written, kept, replaced}
 use Rattle.round_sweeps.proofs.RoundLaws.{row_low, row_high, row_higher}
 
 -- no number of a potential is too small
@@ -38,6 +38,43 @@ pub record AreFit (m : ℕ) (limit : ℤ) (phi downs rights : ℕ → ℤ) : Typ
   pub numbers : (j : ℕ) → j ≤ m → neg_ℤ start_limit ≤ℤ phi j
   pub downs_least : (j : ℕ) → j < m → pos 0 ≤ℤ downs j
   pub rights_least : (j : ℕ) → j ≤ m → pos 0 ≤ℤ rights j
+
+-- a number more in range
+pub sums_more : (h : ℕ) (xs : List ℤ) (k : ℕ) (v : ℤ) → AreSumsOf h xs → k ≤ h → pos 0 ≤ℤ v → v ≤ℤ gone
+    → AreSumsOf h (set xs k v)
+sums_more h xs k v s le low high = record {
+  count = length-set xs k v ∙ s.count;
+  least = λ j in'. replaced (λ (x : ℤ). pos 0 ≤ℤ x) xs k j v within (λ _. low) (λ _. s.least j in');
+  most = λ j in'. replaced (λ (x : ℤ). x ≤ℤ gone) xs k j v within (λ _. high) (λ _. s.most j in');
+}
+  where
+    within : k < length xs
+    within = omega (arith, le, s.count)
+
+-- the step chosen at a place, from the last row of which H alone leads on
+pub place_above : (m k : ℕ) (limit number by_v by_h sum : ℤ) (way : Bool) → k < m
+    → IsStepChosen limit number by_v by_h sum way → pos 0 ≤ℤ sum → sum ≤ℤ gone
+    → IsPlaceSearched m k limit number by_v by_h sum way
+place_above m k limit number by_v by_h sum way lt s least most = record {
+  down = λ _ le. s.v le;
+  right = s.h;
+  goes_down = λ le t. (lt, s.goes_down le t);
+  goes_right = λ le f. (s.goes_right le f, λ _. s.dearer le f);
+  least = least;
+  most = most;
+}
+
+pub place_last : (m k : ℕ) (limit number by_v by_h sum : ℤ) (way : Bool) → m ≤ k
+    → IsStepChosen limit number gone by_h sum way → neg_ℤ start_limit ≤ℤ number → limit ≤ℤ value_limit → pos 0 ≤ℤ sum
+    → sum ≤ℤ gone → IsPlaceSearched m k limit number by_v by_h sum way
+place_last m k limit number by_v by_h sum way ge s low small least most = record {
+  down = λ lt. absurd (omega (arith, lt, ge));
+  right = s.h;
+  goes_down = λ le t. absurd (omega (arith, ints, s.goes_down le t, le, low, small));
+  goes_right = λ le f. (s.goes_right le f, λ lt. absurd (omega (arith, lt, ge)));
+  least = least;
+  most = most;
+}
 
 -- rows k to m are done; `below` stands in the last one of them
 pub record IsBackUntil (m k : ℕ) (limit : ℤ) (phi downs rights : ℕ → ℤ) (old new : List ℤ) (ways : List Bool)
@@ -86,16 +123,12 @@ back_none m limit phi downs rights old ways first last f s w = record {
 pub back_more : (m row : ℕ) (limit : ℤ) (phi downs rights : ℕ → ℤ) (old new : List ℤ) (ways : List Bool) (below sum : ℤ)
     (way : Bool) (first last first' last' : ℕ)
     → IsBackUntil m (row + 1) limit phi downs rights old new ways below first last → row ≤ m → length ways ≡ m + 1
-    → (row < m → (phi row +ℤ (downs row +ℤ below)) ≤ℤ limit → sum ≤ℤ (downs row +ℤ below))
-    → ((phi row +ℤ (rights row +ℤ at_row new row)) ≤ℤ limit → sum ≤ℤ (rights row +ℤ at_row new row))
-    → ((phi row +ℤ sum) ≤ℤ limit → way ≡ true → (row < m) × (sum ≡ downs row +ℤ below))
-    → ((phi row +ℤ sum) ≤ℤ limit → way ≡ false → (sum ≡ rights row +ℤ at_row new row)
-    × (row < m → sum <ℤ (downs row +ℤ below)))
-    → pos 0 ≤ℤ sum → sum ≤ℤ gone → last' ≤ m → ((row < first') ⊎ (last' < row) → gone ≤ℤ sum)
+    → IsPlaceSearched m row limit (phi row) (downs row +ℤ below) (rights row +ℤ at_row new row) sum way
+    → last' ≤ m → ((row < first') ⊎ (last' < row) → gone ≤ℤ sum)
     → ((k : ℕ) → row < k → k ≤ m → (k < first') ⊎ (last' < k) → (k < first) ⊎ (last < k))
     → IsBackUntil m row limit phi downs rights old (set new row sum) (set ways row way) sum first' last'
-back_more m row limit phi downs rights old new ways below sum way first last first' last' h lt count by_v by_h goes_v
-    goes_h least most last_in here after = record {
+back_more m row limit phi downs rights old new ways below sum way first last first' last' h lt count place last_in here
+    after = record {
       back = record {
         rest = λ j less. kept new row j sum (omega (arith, less)) ∙ h.back.rest j (omega (arith, less));
         down = down;
@@ -103,11 +136,11 @@ back_more m row limit phi downs rights old new ways below sum way first last fir
         goes_down = goes_down;
         goes_right = goes_right;
       };
-      sums = record { count = length-set new row sum ∙ h.sums.count; least = sums_least; most = sums_most };
+      sums = sums_more m new row sum h.sums lt place.least place.most;
       below_is = λ le. sym (written new row row sum within refl);
       below_gone = λ e. absurd (omega (arith, e, lt));
-      below_least = least;
-      below_most = most;
+      below_least = place.least;
+      below_most = place.most;
       last_in = last_in;
       outside = outside;
     }
@@ -130,25 +163,13 @@ back_more m row limit phi downs rights old new ways below sum way first last fir
     next_is : (j : ℕ) → j ≡ row → j < m → below ≡ at_row new (j + 1)
     next_is j d less = rw d (h.below_is (omega (arith, d, less)))
 
-    sums_least : (j : ℕ) → j ≤ m → pos 0 ≤ℤ at_row (set new row sum) j
-    sums_least j le = elim (cases_eq j row) [
-      | inl d ↦ omega (arith, ints, written new row j sum within d, least)
-      | inr ne ↦ omega (arith, ints, kept new row j sum ne, h.sums.least j le)
-    ]
-
-    sums_most : (j : ℕ) → j ≤ m → at_row (set new row sum) j ≤ℤ gone
-    sums_most j le = elim (cases_eq j row) [
-      | inl d ↦ omega (arith, ints, written new row j sum within d, most)
-      | inr ne ↦ omega (arith, ints, kept new row j sum ne, h.sums.most j le)
-    ]
-
     outside : (j : ℕ) → row ≤ j → j ≤ m → (j < first') ⊎ (last' < j) → at_row (set new row sum) j ≡ gone
     outside j le in' o = elim (cases_eq j row) [
       | inl d ↦ omega (
         arith,
         ints,
         written new row j sum within d,
-        most,
+        place.most,
         here (subst (λ (x : ℕ). (x < first') ⊎ (last' < x)) d o),
       )
       | inr ne ↦ kept new row j sum ne ∙ h.outside j (omega (arith, le, ne)) in' (after j (omega (arith, le, ne)) in' o)
@@ -166,7 +187,7 @@ back_more m row limit phi downs rights old new ways below sum way first last fir
             next,
             next_is j d less,
             ap downs d,
-            by_v (omega (arith, d, less)) (omega (arith, ints, p, next, next_is j d less, ap downs d, ap phi d)),
+            place.down (omega (arith, d, less)) (omega (arith, ints, p, next, next_is j d less, ap downs d, ap phi d)),
           )
           | inr ne ↦ omega (
             arith,
@@ -188,7 +209,7 @@ back_more m row limit phi downs rights old new ways below sum way first last fir
             old_here,
             ap rights d,
             ap (at_row old) d,
-            by_h (omega (arith, ints, p, old_here, ap rights d, ap (at_row old) d, ap phi d)),
+            place.right (omega (arith, ints, p, old_here, ap rights d, ap (at_row old) d, ap phi d)),
           )
           | inr ne ↦ omega (arith, ints, kept new row j sum ne, h.back.right j (omega (arith, le, ne)) in' p)
         ]
@@ -199,7 +220,7 @@ back_more m row limit phi downs rights old new ways below sum way first last fir
     goes_down j le in' p e =
         let next = kept new row (j + 1) sum (omega (arith, le)) in
         elim (cases_eq j row) [
-          | inl d ↦ (let g = goes_v (omega (arith, ints, p, written new row j sum within d, ap phi d))
+          | inl d ↦ (let g = place.goes_down (omega (arith, ints, p, written new row j sum within d, ap phi d))
               (sym (way_here j d) ∙ e) in (
                 omega (arith, d, g.0),
                 omega (
@@ -223,7 +244,7 @@ back_more m row limit phi downs rights old new ways below sum way first last fir
     goes_right j le in' p e =
         let next = kept new row (j + 1) sum (omega (arith, le)) in
         elim (cases_eq j row) [
-          | inl d ↦ (let g = goes_h (omega (arith, ints, p, written new row j sum within d, ap phi d))
+          | inl d ↦ (let g = place.goes_right (omega (arith, ints, p, written new row j sum within d, ap phi d))
               (sym (way_here j d) ∙ e) in (
                 omega (arith, ints, written new row j sum within d, old_here, ap (at_row old) d, ap rights d, g.0),
                 λ less. omega (
@@ -312,15 +333,14 @@ pub begun_sums : (m : ℕ) (sums : List ℤ) → length sums ≡ m + 1 → ((k :
     → AreSumsOf m (set sums m (pos 0))
 begun_sums m sums len all = record {
   count = length-set sums m (pos 0) ∙ len;
-  least = λ k le. elim (cases_eq k m) [
-    | inl d ↦ omega (arith, ints, written sums m k (pos 0) (omega (arith, len)) d)
-    | inr ne ↦ omega (arith, ints, kept sums m k (pos 0) ne, all k (omega (arith, le, ne)))
-  ];
-  most = λ k le. elim (cases_eq k m) [
-    | inl d ↦ omega (arith, ints, written sums m k (pos 0) (omega (arith, len)) d)
-    | inr ne ↦ omega (arith, ints, kept sums m k (pos 0) ne, all k (omega (arith, le, ne)))
-  ];
+  least = λ k le. replaced (λ (x : ℤ). pos 0 ≤ℤ x) sums m k (pos 0) within (λ _. omega (arith, ints))
+      (λ ne. omega (arith, ints, all k (omega (arith, le, ne))));
+  most = λ k le. replaced (λ (x : ℤ). x ≤ℤ gone) sums m k (pos 0) within (λ _. omega (arith, ints))
+      (λ ne. omega (arith, ints, all k (omega (arith, le, ne))));
 }
+  where
+    within : m < length sums
+    within = omega (arith, len)
 
 pub begun_window : (m : ℕ) (sums : List ℤ) → length sums ≡ m + 1 → ((k : ℕ) → k < m → at_row sums k ≡ gone)
     → IsWindow m m m (set sums m (pos 0))
@@ -372,12 +392,8 @@ way_after front column column' rest l k le =
 pub back_more_at : (m k row : ℕ) (limit : ℤ) (phi downs rights : ℕ → ℤ) (old new : List ℤ) (ways : List Bool)
     (below sum : ℤ) (way : Bool) (first last first' last' : ℕ) → k ≡ row + 1
     → IsBackUntil m k limit phi downs rights old new ways below first last → row ≤ m → length ways ≡ m + 1
-    → (row < m → (phi row +ℤ (downs row +ℤ below)) ≤ℤ limit → sum ≤ℤ (downs row +ℤ below))
-    → ((phi row +ℤ (rights row +ℤ at_row new row)) ≤ℤ limit → sum ≤ℤ (rights row +ℤ at_row new row))
-    → ((phi row +ℤ sum) ≤ℤ limit → way ≡ true → (row < m) × (sum ≡ downs row +ℤ below))
-    → ((phi row +ℤ sum) ≤ℤ limit → way ≡ false → (sum ≡ rights row +ℤ at_row new row)
-    × (row < m → sum <ℤ (downs row +ℤ below)))
-    → pos 0 ≤ℤ sum → sum ≤ℤ gone → last' ≤ m → ((row < first') ⊎ (last' < row) → gone ≤ℤ sum)
+    → IsPlaceSearched m row limit (phi row) (downs row +ℤ below) (rights row +ℤ at_row new row) sum way
+    → last' ≤ m → ((row < first') ⊎ (last' < row) → gone ≤ℤ sum)
     → ((k : ℕ) → row < k → k ≤ m → (k < first') ⊎ (last' < k) → (k < first) ⊎ (last < k))
     → IsBackUntil m row limit phi downs rights old (set new row sum) (set ways row way) sum first' last'
 back_more_at m k row limit phi downs rights old new ways below sum way first last first' last' e h =

@@ -1,20 +1,19 @@
 -- A search back from the ends of many turns bounds the turns.
-use Rattle.std.proofs.Common.{◌≡◌, ℕ, ◌+◌, ◌-◌, ◌*◌, ◌%◌, ◌<◌, ◌≤◌, ◌^◌, ℤ, pos, neg_ℤ, ◌+ℤ◌, ◌-ℤ◌, ◌≤ℤ◌, List, Bool, [], ◌∷◌, length, length-set, replicate, set, take, drop, get_or-take, get_or-drop, unsigned_abs, refl, ap, sym, subst, to_z, of_z, w64, ◌∙◌, arith, inl, inr}
+use Rattle.std.proofs.Common.{◌≡◌, ℕ, ◌+◌, ◌-◌, ◌*◌, ◌%◌, ◌<◌, ◌≤◌, ◌^◌, ℤ, pos, neg_ℤ, ◌+ℤ◌, ◌-ℤ◌, ◌≤ℤ◌, List, Bool, [], ◌∷◌, length, replicate, set, take, drop, get_or-take, get_or-drop, unsigned_abs, refl, ap, sym, subst, to_z, of_z, w64, ◌∙◌, arith, inl, inr}
 use Rattle.std.proofs.lemmas.Bool.{cases_lt, cases_eq}
 use Rattle.std.proofs.lemmas.Int.{ints, by_lt_z}
 use Rattle.std.proofs.lemmas.List.{length-replicate, get_or-replicate}
 use Rattle.strip_graph.specs.declared.tilings.Step.{Step}
 use Rattle.strip_graph.specs.declared.tilings.Step.TheVariants.{V, H}
 use Rattle.strip_graph.specs.Words.{Arcs, count_v, word_cost, HasLetters}
-use Rattle.strip_graph.specs.Feasible.{IsForward, IsRowPeriodic, AreTurnBounds, lifted, lifted_row}
+use Rattle.strip_graph.specs.Feasible.{IsForward, IsRowPeriodic, lifted, lifted_row}
 use Rattle.strip_graph.proofs.WordLaws.{Periodic, word_cost-at, word_cost-row}
 use Rattle.strip_graph.proofs.FeasibleRounds.{forward_of_round}
 use Rattle.round_sweeps.specs.Columns.{at_row, table_at, AreRowsBounded, AreColumnCosts}
-use Rattle.round_sweeps.specs.Tables.{IsTable}
+use Rattle.round_sweeps.specs.Tables.{IsTable, AreFitBounds}
 use Rattle.round_sweeps.specs.Searches.{gone, AreSumsOf, numbers_from, downs_from, rights_from, IsBackColumn}
 use Rattle.round_sweeps.specs.Bands.{IsBand, ended_cost}
-use Rattle.round_sweeps.proofs.ColumnLaws.{written, kept}
-use Rattle.round_sweeps.proofs.ColumnLaws.{zeroth}
+use Rattle.round_sweeps.proofs.ColumnLaws.{zeroth, written, kept, replaced}
 use Rattle.round_sweeps.proofs.OfColumnLaws.{of_column, rights_at, bounded_take, column_at}
 use Rattle.round_sweeps.proofs.RoundLaws.{ring_low, ring_high}
 use Rattle.round_sweeps.proofs.TraceLaws.{AreOfColumn}
@@ -156,38 +155,29 @@ band_bound a m n phi i k limit ends sums bound p lt less band h w l =
       ints,
       turn_cost a m n (i + k) w p (omega (arith, lt, less)) (omega (arith, lt)),
       h (word_cost a (i + k) 0 w) (λ le.
-          omega (arith, ints, e, band k w (omega (arith, l.v, less)) (omega (arith, l.h)) (omega (arith, ints, e, le)))),
+          omega (
+            arith,
+            ints,
+            e,
+            band k w (omega (arith, l.v, less)) (omega (arith, l.h))
+                (omega (arith, ints, e, le)),
+          )),
     )
 
 -- bounds stay bounds where one of them is raised to another bound
-pub raised : (a : Arcs) (m n r : ℕ) (bounds : List ℤ) (bound : ℤ) → AreTurnBounds a m n (at_row bounds)
-    → length bounds ≡ m → r < m → ((w : List Step) → HasLetters m n w → bound ≤ℤ pos (word_cost a r 0 w))
-    → AreTurnBounds a m n (at_row (set bounds r bound))
-raised a m n r bounds bound h len lt b k less w l = elim (cases_eq k r) [
-  | inl e ↦ omega (
-    arith,
-    ints,
-    written bounds r k bound (omega (arith, len, lt)) e,
-    ap (λ (x : ℕ). word_cost a x 0 w) e,
-    b w l,
-  )
-  | inr ne ↦ omega (arith, ints, kept bounds r k bound ne, h k less w l)
-]
-
--- a number more in range
-pub sums_more : (h : ℕ) (xs : List ℤ) (k : ℕ) (v : ℤ) → AreSumsOf h xs → k ≤ h → pos 0 ≤ℤ v → v ≤ℤ gone
-    → AreSumsOf h (set xs k v)
-sums_more h xs k v s le low high = record {
-  count = length-set xs k v ∙ s.count;
-  least = λ j in'. elim (cases_eq j k) [
-    | inl e ↦ omega (arith, ints, written xs k j v (omega (arith, le, s.count)) e, low)
-    | inr ne ↦ omega (arith, ints, kept xs k j v ne, s.least j in')
-  ];
-  most = λ j in'. elim (cases_eq j k) [
-    | inl e ↦ omega (arith, ints, written xs k j v (omega (arith, le, s.count)) e, high)
-    | inr ne ↦ omega (arith, ints, kept xs k j v ne, s.most j in')
-  ];
+pub raised : (a : Arcs) (m n r : ℕ) (bounds : List ℤ) (bound : ℤ) → AreFitBounds a m n bounds → length bounds ≡ m
+    → r < m
+    → ((w : List Step) → HasLetters m n w → bound ≤ℤ pos (word_cost a r 0 w)) → unsigned_abs bound < 2 ^ 63
+    → AreFitBounds a m n (set bounds r bound)
+raised a m n r bounds bound h len lt b fits = record {
+  turns = λ k less w l. replaced (λ (x : ℤ). x ≤ℤ pos (word_cost a k 0 w)) bounds r k bound within
+      (λ e. omega (arith, ints, ap (λ (x : ℕ). word_cost a x 0 w) e, b w l)) (λ _. h.turns k less w l);
+  fit = λ k less. replaced (λ (x : ℤ). unsigned_abs x < 2 ^ 63) bounds r k bound within (λ _. fits)
+      (λ _. h.fit k less);
 }
+  where
+    within : r < length bounds
+    within = omega (arith, len, lt)
 
 -- where nothing is left
 pub sums_none : (h count : ℕ) → count ≡ h + 1 → AreSumsOf h (replicate count gone)
@@ -203,14 +193,6 @@ pub past_bound : (number limit end sum less x : ℤ) (cost : ℕ) → less ≤�
 past_bound number limit end sum less x cost past by_sum e h =
     by_lt_z limit (number +ℤ (pos cost +ℤ end)) (λ lt. omega (arith, ints, past, e, lt))
     (λ le. omega (arith, ints, by_sum, e, h le))
-
--- a number more that fits
-pub fit_more : (m at : ℕ) (xs : List ℤ) (v : ℤ) → ((r : ℕ) → r < m → unsigned_abs (at_row xs r) < 2 ^ 63)
-    → at < length xs → unsigned_abs v < 2 ^ 63 → (r : ℕ) → r < m → unsigned_abs (at_row (set xs at v) r) < 2 ^ 63
-fit_more m at xs v h lt fits r less = elim (cases_eq r at) [
-  | inl e ↦ subst (λ (x : ℤ). unsigned_abs x < 2 ^ 63) (sym (written xs at r v lt e)) fits
-  | inr ne ↦ subst (λ (x : ℤ). unsigned_abs x < 2 ^ 63) (sym (kept xs at r v ne)) (h r less)
-]
 
 -- column 0 of a table
 pub first_at : (m : ℕ) (table : List ℤ) (r : ℕ) → r < m → at_row (take m table) r ≡ table_at m table r 0

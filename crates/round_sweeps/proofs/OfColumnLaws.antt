@@ -1,14 +1,16 @@
 -- A column's numbers and costs, whose rows are counted from a turn's start.
-use Rattle.std.proofs.Common.{◌≡◌, ℕ, zero, suc, ◌+◌, ◌-◌, ◌*◌, ◌/◌, ◌%◌, ◌<◌, ◌≤◌, ℤ, pos, neg_ℤ, ◌+ℤ◌, ◌*ℤ◌, ◌≤ℤ◌, List, take, drop, get_or-take, get_or-drop, mul-le-mul_right, Bool, false, refl, subst, ap, sym, ◌∙◌, arith, inl, inr}
+use Rattle.std.proofs.Common.{◌≡◌, ℕ, zero, suc, ◌+◌, ◌-◌, ◌*◌, ◌/◌, ◌%◌, ◌<◌, ◌≤◌, ℤ, pos, neg_ℤ, ◌+ℤ◌, ◌*ℤ◌, ◌≤ℤ◌, List, length, take, drop, length-drop, get_or-take, get_or-drop, mul-le-mul_right, Bool, false, refl, subst, ap, sym, ◌∙◌, arith, inl, inr}
 use Rattle.std.proofs.lemmas.Bool.{cases_lt}
 use Rattle.std.proofs.lemmas.Int.{ints}
+use Rattle.std.proofs.lemmas.List.{length-take-le}
 use Rattle.std.proofs.lemmas.Nat.{mod_below, div-add-mod', mod-mul-add}
 use Rattle.strip_graph.specs.declared.tilings.Step.{Step}
 use Rattle.strip_graph.specs.declared.tilings.Step.TheVariants.{V, H}
 use Rattle.strip_graph.specs.Words.{Arcs}
 use Rattle.strip_graph.specs.Feasible.{IsRowPeriodic, lifted}
 use Rattle.round_sweeps.specs.Columns.{start_limit, value_limit, at_row, table_at, AreRowsBounded, AreColumnCosts}
-use Rattle.round_sweeps.specs.Searches.{way_of, way_at, numbers_from, downs_from, rights_from, IsWindow, IsBackColumn, IsSearchedTo, IsMet}
+use Rattle.round_sweeps.specs.Tables.{AreColumnsInRange, IsSearchable}
+use Rattle.round_sweeps.specs.Searches.{way_of, way_at, numbers_from, downs_from, rights_from, IsWindow, IsSearchInRange, IsBackColumn, IsSearchedTo, IsMet}
 use Rattle.round_sweeps.proofs.BackLaws.{number_least}
 use Rattle.round_sweeps.proofs.RoundLaws.{row_low}
 use Rattle.round_sweeps.proofs.TraceLaws.{AreOfColumn, searched_first, searched_more}
@@ -93,6 +95,55 @@ bounded_take m xs b = record {
   least = λ r lt. omega (arith, ints, b.least r lt, get_or-take m xs r (pos 0) lt);
   most = λ r lt. omega (arith, ints, b.most r lt, get_or-take m xs r (pos 0) lt);
 }
+
+-- a column of a table has as many numbers as there are rows
+pub column_length : (m c : ℕ) (table : List ℤ) → (c + 1) * m ≤ length table → length (take m (drop (c * m) table)) ≡ m
+column_length m c table room = length-take-le m (drop (c * m) table) (omega (arith, length-drop (c * m) table, room))
+
+-- the same costs, in a strip of as many rows
+pub costs_at : (a : Arcs) (m m' c : ℕ) (downs rights : ℕ → ℤ) → m ≡ m' → AreColumnCosts a m' c downs rights
+    → AreColumnCosts a m c downs rights
+costs_at a m m' c downs rights e h = subst (λ (x : ℕ). AreColumnCosts a x c downs rights) (sym e) h
+
+-- fewer columns are searched in range too
+pub searchable_upto : (m n c : ℕ) (s : ℤ) (table : List ℤ) (i : ℕ) (limit : ℤ) → IsSearchable m n s table i limit
+    → c ≤ n → IsSearchable m c s table i limit
+searchable_upto m n c s table i limit q le = record {
+  table_fits = record {
+    few_rows = t.few_rows;
+    few_cols = omega (arith, le, t.few_cols);
+    room = (let up : c + 1 ≤ n + 1 = omega (arith, le) in omega (arith, mul-le-mul_right m up, t.room));
+    inside = λ k in'. t.inside k (omega (arith, in', le));
+    round_least = t.round_least;
+    round_most = t.round_most;
+  };
+  start = q.start;
+  limit_least = q.limit_least;
+  limit_most = q.limit_most;
+}
+  where
+    t : AreColumnsInRange m n s table
+    t = q.table_fits
+
+-- and so is a column that is cut out of the table
+pub column_in_range : (m c h : ℕ) (s : ℤ) (table : List ℤ) (i : ℕ) (limit : ℤ) → IsSearchable m c s table i limit
+    → h < 2 * m → IsSearchInRange i h s limit (take m (drop (c * m) table))
+column_in_range m c h s table i limit q low = record {
+  start = rw count q.start;
+  few = rw count t.few_rows;
+  height = rw count low;
+  bounded = rw count (bounded_take m (drop (c * m) table) (t.inside c (omega arith)));
+  round_least = t.round_least;
+  round_most = t.round_most;
+  limit_least = q.limit_least;
+  limit_most = q.limit_most;
+}
+  where
+    t : AreColumnsInRange m c s table
+    t = q.table_fits
+
+    count : length (take m (drop (c * m) table)) ≡ m
+    count = column_length m c table t.room
 
 -- a column more of a search back
 pub searched_back : (a : Arcs) (m n c0 : ℕ) (s : ℤ) (i : ℕ) (limit : ℤ) (table : List ℤ)

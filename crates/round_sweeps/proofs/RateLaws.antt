@@ -5,7 +5,7 @@ use Rattle.std.proofs.lemmas.Int.{ints}
 use Rattle.fku_types.proofs.ListLaws.{set_more}
 use Rattle.round_sweeps.specs.Columns.{cost_limit, at_row}
 use Rattle.round_sweeps.specs.Starts.{AreRates}
-use Rattle.round_sweeps.proofs.ColumnLaws.{written, kept}
+use Rattle.round_sweeps.proofs.ColumnLaws.{written, kept, replaced}
 
 -- rates of rows that are at most those of a list
 pub record AreLowered (old new : List ℤ) : Type 0 where
@@ -21,29 +21,14 @@ pub lowered_more : (old new : List ℤ) (row : ℕ) (cost : ℤ) → AreLowered 
 lowered_more old new row cost h lt least less = record {
   count = length-set new row cost ∙ h.count;
   rates = record {
-    least = λ r in'. (elim (cases_eq r row) [
-      | inl d ↦ omega (arith, ints, written new row r cost within d, least)
-      | inr ne ↦ omega (
-        arith,
-        ints,
-        kept new row r cost ne,
-        h.rates.least r (omega (arith, in', length-set new row cost)),
-      )
-    ]);
-    most = λ r in'. (elim (cases_eq r row) [
-      | inl d ↦ omega (arith, ints, written new row r cost within d, less, h.rates.most row within)
-      | inr ne ↦ omega (
-        arith,
-        ints,
-        kept new row r cost ne,
-        h.rates.most r (omega (arith, in', length-set new row cost)),
-      )
-    ]);
+    least = λ r in'. replaced (λ (x : ℤ). pos 0 ≤ℤ x) new row r cost within (λ _. least)
+        (λ _. h.rates.least r (omega (arith, in', length-set new row cost)));
+    most = λ r in'. replaced (λ (x : ℤ). x ≤ℤ cost_limit) new row r cost within
+        (λ _. omega (arith, ints, less, h.rates.most row within))
+        (λ _. h.rates.most r (omega (arith, in', length-set new row cost)));
   };
-  lower = λ r in'. (elim (cases_eq r row) [
-    | inl d ↦ omega (arith, ints, written new row r cost within d, less, h.lower row lt, ap (at_row old) d)
-    | inr ne ↦ omega (arith, ints, kept new row r cost ne, h.lower r in')
-  ]);
+  lower = λ r in'. replaced (λ (x : ℤ). x ≤ℤ at_row old r) new row r cost within
+      (λ d. omega (arith, ints, less, h.lower row lt, ap (at_row old) d)) (λ _. h.lower r in');
 }
   where
     within : row < length new

@@ -2,7 +2,8 @@
 use Rattle.std.specs.Prelude.{◌≡◌, ℕ, ◌+◌, ◌*◌, ◌%◌, ◌<◌, ◌≤◌, ◌^◌, ◌⊎◌, ℤ, pos, ◌+ℤ◌, ◌≤ℤ◌, ◌<ℤ◌, Bool, true, false, List, length, slice_index_or}
 use Rattle.strip_graph.specs.Words.{Arcs}
 use Rattle.strip_graph.specs.Feasible.{lifted, lifted_row}
-use Rattle.round_sweeps.specs.Columns.{at_row, table_at}
+use Rattle.fku_types.specs.declared.limits.TheConstants.{MAX_COMPOSITE_VERTICES}
+use Rattle.round_sweeps.specs.Columns.{value_limit, at_row, table_at, AreRowsBounded}
 use Rattle.round_sweeps.specs.Searched.{IsLeft, IsSearched}
 
 -- what stands at a place that is not left
@@ -37,6 +38,34 @@ pub record AreSumsOf (m : ℕ) (sums : List ℤ) : Type 0 where
 pub record IsWindow (m first last : ℕ) (sums : List ℤ) : Type 0 where
   pub within : last ≤ m
   pub outside : (k : ℕ) → k ≤ m → (k < first) ⊎ (last < k) → at_row sums k ≡ gone
+
+-- a search of a column from row i on h rows further, and the numbers that it computes, are in range
+pub record IsSearchInRange (i h : ℕ) (s limit : ℤ) (known : List ℤ) : Type 0 where
+  pub start : i < length known
+  pub few : length known ≤ MAX_COMPOSITE_VERTICES
+  pub height : h < 2 * length known
+  pub bounded : AreRowsBounded (length known) known
+  pub round_least : pos 0 ≤ℤ s
+  pub round_most : s ≤ℤ value_limit
+  pub limit_least : pos 0 ≤ℤ limit
+  pub limit_most : limit ≤ℤ value_limit
+
+-- the less of what both steps from a place cost on, V where it is no dearer, where the limit leaves that
+pub record IsStepChosen (limit number by_v by_h sum : ℤ) (way : Bool) : Type 0 where
+  pub v : (number +ℤ by_v) ≤ℤ limit → sum ≤ℤ by_v
+  pub h : (number +ℤ by_h) ≤ℤ limit → sum ≤ℤ by_h
+  pub goes_down : (number +ℤ sum) ≤ℤ limit → way ≡ true → sum ≡ by_v
+  pub goes_right : (number +ℤ sum) ≤ℤ limit → way ≡ false → sum ≡ by_h
+  pub dearer : (number +ℤ sum) ≤ℤ limit → way ≡ false → sum <ℤ by_v
+
+-- the same in row k of rows 0 to m, from the last of which H alone leads on
+pub record IsPlaceSearched (m k : ℕ) (limit number by_v by_h sum : ℤ) (way : Bool) : Type 0 where
+  pub down : k < m → (number +ℤ by_v) ≤ℤ limit → sum ≤ℤ by_v
+  pub right : (number +ℤ by_h) ≤ℤ limit → sum ≤ℤ by_h
+  pub goes_down : (number +ℤ sum) ≤ℤ limit → way ≡ true → (k < m) × (sum ≡ by_v)
+  pub goes_right : (number +ℤ sum) ≤ℤ limit → way ≡ false → (sum ≡ by_h) × (k < m → sum <ℤ by_v)
+  pub least : pos 0 ≤ℤ sum
+  pub most : sum ≤ℤ gone
 
 -- rows k to m of a column are searched: `old` has the sums of the next column, and `new` those of this one, in the rows
 -- below k still those of the next one

@@ -3,7 +3,7 @@ ghost use Rattle.std.specs.Prelude.{◌≡◌, ℕ, ◌+◌, ◌-◌, ◌*◌, �
 ghost use Rattle.strip_graph.specs.declared.tilings.Step.{Step};
 ghost use Rattle.strip_graph.specs.Feasible.{IsRowPeriodic, AreTurnBounds, lifted};
 ghost use Rattle.round_sweeps.specs.Columns.{start_limit, value_limit, at_row, table_at, AreRowsBounded};
-ghost use Rattle.round_sweeps.specs.Tables.{IsTable};
+ghost use Rattle.round_sweeps.specs.Tables.{GoesRound, AreColumnsInRange, IsSearchable, IsTable, AreFitBounds};
 ghost use Rattle.round_sweeps.specs.Searches.{gone, numbers_from, downs_from, rights_from, AreSumsOf, IsWindow, IsBackColumn};
 ghost use Rattle.round_sweeps.specs.Bands.{IsBand};
 
@@ -72,16 +72,8 @@ fn band_next<C: ColumnCosts, N: ColumnCosts>(
 ) -> Window
     requires here_rows { C.rows here.now ≡ rows }
     requires next_rows { N.rows next.now ≡ rows }
-    requires start { start < rows }
-    requires few { rows ≤ MAX_COMPOSITE_VERTICES }
-    requires col { col ≤ MAX_COMPOSITE_VERTICES }
-    requires room { (col + 1) * rows ≤ length table.now }
+    requires search { IsSearchable rows col round table.now start limit }
     requires ways { length ways.old ≡ 2 * rows }
-    requires bounded { AreRowsBounded rows (drop (col * rows) table.now) }
-    requires round_least { pos 0 ≤ℤ round }
-    requires round_most { round ≤ℤ value_limit }
-    requires limit_least { pos 0 ≤ℤ limit }
-    requires limit_most { limit ≤ℤ value_limit }
     requires downs_least { (r : ℕ) → r < rows → pos 0 ≤ℤ C.downs here.now r }
     requires rights_least { (r : ℕ) → r < rows → pos 0 ≤ℤ N.rights next.now r }
     requires sums { AreSumsOf (2 * rows - 1) sums.old }
@@ -115,17 +107,9 @@ fn search_band<S: StripColumns>(
 )
     requires rows { rows ≡ S.rows costs.now }
     requires cols { cols ≡ S.cols costs.now }
-    requires start { start < rows }
-    requires few { rows ≤ MAX_COMPOSITE_VERTICES }
-    requires few_cols { cols ≤ MAX_COMPOSITE_VERTICES }
-    requires room { (cols + 1) * rows ≤ length table.now }
-    requires inside { (c : ℕ) → c ≤ cols → AreRowsBounded rows (drop (c * rows) table.now) }
-    requires periodic { IsRowPeriodic (S.costs costs.now) rows }
+    requires strip { GoesRound (S.costs costs.now) rows cols }
+    requires search { IsSearchable rows cols round table.now start limit }
     requires potential { IsTable (S.costs costs.now) rows cols round table.now }
-    requires round_least { pos 0 ≤ℤ round }
-    requires round_most { round ≤ℤ value_limit }
-    requires limit_least { pos 0 ≤ℤ limit }
-    requires limit_most { limit ≤ℤ value_limit }
     requires ends { AreSumsOf (2 * rows - 1) ends.now }
     requires sums { length sums.old ≡ 2 * rows }
     requires ways { length ways.old ≡ 2 * rows }
@@ -220,26 +204,15 @@ fn raise_bounds<S: StripColumns>(
 )
     requires rows { rows ≡ S.rows costs.now }
     requires cols { cols ≡ S.cols costs.now }
-    requires start { start < rows }
-    requires few { rows ≤ MAX_COMPOSITE_VERTICES }
-    requires few_cols { cols ≤ MAX_COMPOSITE_VERTICES }
-    requires room { (cols + 1) * rows ≤ length table.now }
-    requires inside { (c : ℕ) → c ≤ cols → AreRowsBounded rows (drop (c * rows) table.now) }
-    requires periodic { IsRowPeriodic (S.costs costs.now) rows }
-    requires periodic_cols { (i j : ℕ) (s : Step) → S.costs costs.now i (j + cols) s ≡ S.costs costs.now i j s }
+    requires strip { GoesRound (S.costs costs.now) rows cols }
+    requires search { IsSearchable rows cols round table.now start limit }
     requires potential { IsTable (S.costs costs.now) rows cols round table.now }
-    requires round_least { pos 0 ≤ℤ round }
-    requires round_most { round ≤ℤ value_limit }
-    requires limit_least { pos 0 ≤ℤ limit }
-    requires limit_most { limit ≤ℤ value_limit }
     requires ends { AreSumsOf (2 * rows - 1) ends.now }
     requires sums { length sums.old ≡ 2 * rows }
     requires ways { length ways.old ≡ 2 * rows }
+    requires known { AreFitBounds (S.costs costs.now) rows cols bounds.old }
     requires bounds { length bounds.old ≡ rows }
-    requires turns { AreTurnBounds (S.costs costs.now) rows cols (at_row bounds.old) }
-    requires fit { (r : ℕ) → r < rows → unsigned_abs (at_row bounds.old r) < 2 ^ 63 }
-    ensures turns { AreTurnBounds (S.costs costs.now) rows cols (at_row bounds.new) }
-    ensures fit { (r : ℕ) → r < rows → unsigned_abs (at_row bounds.new r) < 2 ^ 63 }
+    ensures { AreFitBounds (S.costs costs.now) rows cols bounds.new }
 {
     search_band(
         costs, rows, cols, round, table, start, limit, ends, sums, ways,
@@ -288,23 +261,15 @@ pub(crate) fn narrow_bounds<S: StripColumns>(
 ) -> Result<(), NoMemory>
     requires rows { rows ≡ S.rows costs.now }
     requires cols { cols ≡ S.cols costs.now }
+    requires strip { GoesRound (S.costs costs.now) rows cols }
+    requires table { AreColumnsInRange rows cols round table.now }
     requires row { row < rows }
-    requires few { rows ≤ MAX_COMPOSITE_VERTICES }
-    requires few_cols { cols ≤ MAX_COMPOSITE_VERTICES }
-    requires room { (cols + 1) * rows ≤ length table.now }
-    requires inside { (c : ℕ) → c ≤ cols → AreRowsBounded rows (drop (c * rows) table.now) }
-    requires periodic { IsRowPeriodic (S.costs costs.now) rows }
-    requires periodic_cols { (i j : ℕ) (s : Step) → S.costs costs.now i (j + cols) s ≡ S.costs costs.now i j s }
     requires potential { IsTable (S.costs costs.now) rows cols round table.now }
-    requires round_least { pos 0 ≤ℤ round }
-    requires round_most { round ≤ℤ value_limit }
     requires slack_least { pos 0 ≤ℤ slack }
     requires slack_most { slack ≤ℤ start_limit }
+    requires known { AreFitBounds (S.costs costs.now) rows cols bounds.old }
     requires bounds { length bounds.old ≡ rows }
-    requires turns { AreTurnBounds (S.costs costs.now) rows cols (at_row bounds.old) }
-    requires fit { (r : ℕ) → r < rows → unsigned_abs (at_row bounds.old r) < 2 ^ 63 }
-    ensures turns { OnOk result (AreTurnBounds (S.costs costs.now) rows cols (at_row bounds.new)) }
-    ensures fit { OnOk result ((r : ℕ) → r < rows → unsigned_abs (at_row bounds.new r) < 2 ^ 63) }
+    ensures { OnOk result (AreFitBounds (S.costs costs.now) rows cols bounds.new) }
 {
     let start = ring_row(rows, row + rows - rows / 2);
     let last = &table[cols * rows..cols * rows + rows];

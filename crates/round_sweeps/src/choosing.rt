@@ -7,7 +7,7 @@ ghost use Rattle.strip_graph.specs.Tilings.{IsChosen};
 ghost use Rattle.strip_graph.specs.Feasible.{IsRowPeriodic, AreTurnBounds};
 ghost use Rattle.round_sweeps.specs.Columns.{start_limit, value_limit, at_row, table_at, AreRowsBounded, IsFirstLeastAmong};
 ghost use Rattle.round_sweeps.specs.Starts.{AreRates, AreStarts};
-ghost use Rattle.round_sweeps.specs.Tables.{IsTable};
+ghost use Rattle.round_sweeps.specs.Tables.{GoesRound, AreColumnsInRange, IsTable, AreFitBounds};
 
 use crate::bands::narrow_bounds;
 use crate::bounds::rise_bounds;
@@ -82,22 +82,13 @@ pub fn find_turn<S: StripColumns>(
 ) -> Result<Option<Choice>, NoMemory>
     requires rows { rows ≡ S.rows costs.now }
     requires cols { cols ≡ S.cols costs.now }
-    requires some { 0 < rows }
-    requires some_cols { 0 < cols }
-    requires few { rows ≤ MAX_COMPOSITE_VERTICES }
-    requires few_cols { cols ≤ MAX_COMPOSITE_VERTICES }
-    requires room { (cols + 1) * rows ≤ length table.now }
+    requires strip { GoesRound (S.costs costs.now) rows cols }
+    requires table { AreColumnsInRange rows cols round table.now }
+    requires known { AreFitBounds (S.costs costs.now) rows cols bounds.now }
     requires bounds_rows { length bounds.now ≡ rows }
-    requires bounds_fit { (r : ℕ) → r < rows → unsigned_abs (at_row bounds.now r) < 2 ^ 63 }
     requires ways { (cols + 1) * (rows + 1) ≤ length ways.old }
     requires sums { length sums.old ≡ rows + 1 }
-    requires inside { (c : ℕ) → c ≤ cols → AreRowsBounded rows (drop (c * rows) table.now) }
-    requires periodic { IsRowPeriodic (S.costs costs.now) rows }
-    requires periodic_cols { (i j : ℕ) (s : Step) → S.costs costs.now i (j + cols) s ≡ S.costs costs.now i j s }
     requires potential { IsTable (S.costs costs.now) rows cols round table.now }
-    requires turns { AreTurnBounds (S.costs costs.now) rows cols (at_row bounds.now) }
-    requires round_least { pos 0 ≤ℤ round }
-    requires round_most { round ≤ℤ value_limit }
     ensures chosen { IfOk result (λ o. IfSome o (λ t. IsChosen (S.costs costs.now) rows cols t.row t.word.items)) }
     ensures cost { IfOk result (λ o.
         IfSome o (λ t. pos (word_cost (S.costs costs.now) t.row 0 t.word.items) ≡ t.cost)) }
@@ -156,9 +147,7 @@ fn fill_table<S: StripColumns>(
     requires round { (r : ℕ) → r + 1 ≡ rows → at_row rates.now 0 ≤ℤ pos (S.costs costs.now r 0 V) }
     requires room { (cols + 1) * rows ≤ length table.old }
     ensures potential { IfSome result (λ s. IsTable (S.costs costs.now) rows cols s table.new) }
-    ensures inside { IfSome result (λ s. (c : ℕ) → c ≤ cols → AreRowsBounded rows (drop (c * rows) table.new)) }
-    ensures round_least { IfSome result (λ s. pos 0 ≤ℤ s) }
-    ensures round_most { IfSome result (λ s. s ≤ℤ value_limit) }
+    ensures table { IfSome result (λ s. AreColumnsInRange rows cols s table.new) }
 {
     let round = begin_table(rates, table);
     if !sweep(costs, rows, cols, round, table) {
@@ -181,25 +170,16 @@ fn choose_ahead<S: StripColumns>(
 ) -> Result<Option<Choice>, NoMemory>
     requires rows { rows ≡ S.rows costs.now }
     requires cols { cols ≡ S.cols costs.now }
-    requires some { 0 < rows }
-    requires some_cols { 0 < cols }
-    requires few { rows ≤ MAX_COMPOSITE_VERTICES }
-    requires few_cols { cols ≤ MAX_COMPOSITE_VERTICES }
-    requires room { (cols + 1) * rows ≤ length table.now }
+    requires strip { GoesRound (S.costs costs.now) rows cols }
+    requires table { AreColumnsInRange rows cols round table.now }
     requires bounds { length bounds.old ≡ rows }
     requires ways { (cols + 1) * (rows + 1) ≤ length ways.old }
     requires sums { length sums.old ≡ rows + 1 }
-    requires inside { (c : ℕ) → c ≤ cols → AreRowsBounded rows (drop (c * rows) table.now) }
-    requires periodic { IsRowPeriodic (S.costs costs.now) rows }
-    requires periodic_cols { (i j : ℕ) (s : Step) → S.costs costs.now i (j + cols) s ≡ S.costs costs.now i j s }
     requires potential { IsTable (S.costs costs.now) rows cols round table.now }
-    requires round_least { pos 0 ≤ℤ round }
-    requires round_most { round ≤ℤ value_limit }
     ensures chosen { IfOk result (λ o. IfSome o (λ t. IsChosen (S.costs costs.now) rows cols t.row t.word.items)) }
     ensures cost { IfOk result (λ o.
         IfSome o (λ t. pos (word_cost (S.costs costs.now) t.row 0 t.word.items) ≡ t.cost)) }
-    ensures turns { AreTurnBounds (S.costs costs.now) rows cols (at_row bounds.new) }
-    ensures fit { (r : ℕ) → r < rows → unsigned_abs (at_row bounds.new r) < 2 ^ 63 }
+    ensures known { AreFitBounds (S.costs costs.now) rows cols bounds.new }
 {
     rise_bounds(rows, cols, round, table, bounds);
     find_turn(alloc, costs, rows, cols, round, table, bounds, sums, ways)
@@ -223,31 +203,21 @@ fn choose_under<S: StripColumns>(
 ) -> Result<Option<Choice>, NoMemory>
     requires rows { rows ≡ S.rows costs.now }
     requires cols { cols ≡ S.cols costs.now }
-    requires some { 0 < rows }
-    requires some_cols { 0 < cols }
-    requires few { rows ≤ MAX_COMPOSITE_VERTICES }
-    requires few_cols { cols ≤ MAX_COMPOSITE_VERTICES }
-    requires room { (cols + 1) * rows ≤ length table.now }
+    requires strip { GoesRound (S.costs costs.now) rows cols }
+    requires table { AreColumnsInRange rows cols round table.now }
+    requires known { AreFitBounds (S.costs costs.now) rows cols bounds.old }
     requires bounds { length bounds.old ≡ rows }
     requires ways { (cols + 1) * (rows + 1) ≤ length ways.old }
     requires sums { length sums.old ≡ rows + 1 }
-    requires inside { (c : ℕ) → c ≤ cols → AreRowsBounded rows (drop (c * rows) table.now) }
-    requires periodic { IsRowPeriodic (S.costs costs.now) rows }
-    requires periodic_cols { (i j : ℕ) (s : Step) → S.costs costs.now i (j + cols) s ≡ S.costs costs.now i j s }
     requires potential { IsTable (S.costs costs.now) rows cols round table.now }
-    requires round_least { pos 0 ≤ℤ round }
-    requires round_most { round ≤ℤ value_limit }
     requires row { row < rows }
     requires slack_least { pos 0 ≤ℤ slack }
     requires slack_most { slack ≤ℤ start_limit }
-    requires turns { AreTurnBounds (S.costs costs.now) rows cols (at_row bounds.old) }
-    requires fit { (r : ℕ) → r < rows → unsigned_abs (at_row bounds.old r) < 2 ^ 63 }
     ensures chosen { IfOk result (λ o. IfSome o (λ t. IsChosen (S.costs costs.now) rows cols t.row t.word.items)) }
     ensures cost { IfOk result (λ o.
         IfSome o (λ t. pos (word_cost (S.costs costs.now) t.row 0 t.word.items) ≡ t.cost)) }
     ensures ways { length ways.new ≡ length ways.old }
-    ensures turns { OnOk result (AreTurnBounds (S.costs costs.now) rows cols (at_row bounds.new)) }
-    ensures fit { OnOk result ((r : ℕ) → r < rows → unsigned_abs (at_row bounds.new r) < 2 ^ 63) }
+    ensures known { OnOk result (AreFitBounds (S.costs costs.now) rows cols bounds.new) }
 {
     narrow_bounds(
         alloc, costs, rows, cols, round, table, row, most, slack, bounds,
@@ -282,22 +252,13 @@ fn choose_narrow<S: StripColumns>(
 ) -> Result<Option<Choice>, NoMemory>
     requires rows { rows ≡ S.rows costs.now }
     requires cols { cols ≡ S.cols costs.now }
-    requires some { 0 < rows }
-    requires some_cols { 0 < cols }
-    requires few { rows ≤ MAX_COMPOSITE_VERTICES }
-    requires few_cols { cols ≤ MAX_COMPOSITE_VERTICES }
-    requires room { (cols + 1) * rows ≤ length table.now }
+    requires strip { GoesRound (S.costs costs.now) rows cols }
+    requires table { AreColumnsInRange rows cols round table.now }
+    requires known { AreFitBounds (S.costs costs.now) rows cols bounds.old }
     requires bounds { length bounds.old ≡ rows }
     requires ways { (cols + 1) * (rows + 1) ≤ length ways.old }
     requires sums { length sums.old ≡ rows + 1 }
-    requires inside { (c : ℕ) → c ≤ cols → AreRowsBounded rows (drop (c * rows) table.now) }
-    requires periodic { IsRowPeriodic (S.costs costs.now) rows }
-    requires periodic_cols { (i j : ℕ) (s : Step) → S.costs costs.now i (j + cols) s ≡ S.costs costs.now i j s }
     requires potential { IsTable (S.costs costs.now) rows cols round table.now }
-    requires round_least { pos 0 ≤ℤ round }
-    requires round_most { round ≤ℤ value_limit }
-    requires turns { AreTurnBounds (S.costs costs.now) rows cols (at_row bounds.old) }
-    requires fit { (r : ℕ) → r < rows → unsigned_abs (at_row bounds.old r) < 2 ^ 63 }
     ensures chosen { IfOk result (λ o. IfSome o (λ t. IsChosen (S.costs costs.now) rows cols t.row t.word.items)) }
     ensures cost { IfOk result (λ o.
         IfSome o (λ t. pos (word_cost (S.costs costs.now) t.row 0 t.word.items) ≡ t.cost)) }

@@ -2,7 +2,7 @@
 ghost use Rattle.std.specs.Prelude.{◌≡◌, ◌⊎◌, ℕ, ◌+◌, ◌-◌, ◌*◌, ◌%◌, ◌<◌, ◌≤◌, ◌^◌, ℤ, pos, neg_ℤ, ◌+ℤ◌, ◌-ℤ◌, ◌≤ℤ◌, ◌<ℤ◌, true, false, IfSome, IsTrue, List, length, drop, take};
 ghost use Rattle.strip_graph.specs.Feasible.{lifted_row};
 ghost use Rattle.round_sweeps.specs.Columns.{cost_limit, start_limit, value_limit, at_row, AreRowsBounded};
-ghost use Rattle.round_sweeps.specs.Searches.{gone, way_of, numbers_from, downs_from, rights_from, AreSumsOf, IsWindow, IsBackColumn};
+ghost use Rattle.round_sweeps.specs.Searches.{gone, way_of, numbers_from, downs_from, rights_from, AreSumsOf, IsWindow, IsSearchInRange, IsStepChosen, IsPlaceSearched, IsBackColumn};
 
 use crate::columns::ColumnCosts;
 use fku_types::limits::MAX_COMPOSITE_VERTICES;
@@ -98,11 +98,7 @@ fn choose(by_v: i64, by_h: i64, number: i64, limit: i64) -> (i64, bool)
     requires number_most { number ≤ℤ (value_limit +ℤ (value_limit +ℤ value_limit)) }
     requires limit_least { pos 0 ≤ℤ limit }
     requires limit_most { limit ≤ℤ value_limit }
-    ensures v { (number +ℤ by_v) ≤ℤ limit → result.0 ≤ℤ by_v }
-    ensures h { (number +ℤ by_h) ≤ℤ limit → result.0 ≤ℤ by_h }
-    ensures goes_down { (number +ℤ result.0) ≤ℤ limit → result.1 ≡ true → result.0 ≡ by_v }
-    ensures goes_right { (number +ℤ result.0) ≤ℤ limit → result.1 ≡ false → result.0 ≡ by_h }
-    ensures dearer { (number +ℤ result.0) ≤ℤ limit → result.1 ≡ false → result.0 <ℤ by_v }
+    ensures step { IsStepChosen limit number by_v by_h result.0 result.1 }
     ensures least { pos 0 ≤ℤ result.0 }
     ensures most { result.0 ≤ℤ gone }
 {
@@ -131,38 +127,15 @@ fn search_place<C: ColumnCosts, N: ColumnCosts>(
 ) -> (i64, bool)
     requires here_rows { C.rows here.now ≡ length known.now }
     requires next_rows { N.rows next.now ≡ length known.now }
-    requires start { start < length known.now }
-    requires few { length known.now ≤ MAX_COMPOSITE_VERTICES }
-    requires height { height < 2 * length known.now }
-    requires bounded { AreRowsBounded (length known.now) known.now }
-    requires round_least { pos 0 ≤ℤ round }
-    requires round_most { round ≤ℤ value_limit }
-    requires limit_least { pos 0 ≤ℤ limit }
-    requires limit_most { limit ≤ℤ value_limit }
+    requires range { IsSearchInRange start height round limit known.now }
     requires row { row ≤ height }
     requires below_least { pos 0 ≤ℤ below }
     requires below_most { below ≤ℤ gone }
     requires sum_least { pos 0 ≤ℤ sum }
     requires sum_most { sum ≤ℤ gone }
-    ensures v { row < height
-        → (numbers_from (length known.now) round start known.now row
-        +ℤ (downs_from (length known.now) start (C.downs here.now) row +ℤ below))
-        ≤ℤ limit
-        → result.0 ≤ℤ (downs_from (length known.now) start (C.downs here.now) row +ℤ below) }
-    ensures h { (numbers_from (length known.now) round start known.now row
-        +ℤ (rights_from (length known.now) start (N.rights next.now) row +ℤ sum))
-        ≤ℤ limit
-        → result.0 ≤ℤ (rights_from (length known.now) start (N.rights next.now) row +ℤ sum) }
-    ensures goes_down { (numbers_from (length known.now) round start known.now row +ℤ result.0) ≤ℤ limit
-        → result.1 ≡ true
-        → (row < height)
-        × (result.0 ≡ downs_from (length known.now) start (C.downs here.now) row +ℤ below) }
-    ensures goes_right { (numbers_from (length known.now) round start known.now row +ℤ result.0) ≤ℤ limit
-        → result.1 ≡ false
-        → (result.0 ≡ rights_from (length known.now) start (N.rights next.now) row +ℤ sum)
-        × (row < height → result.0 <ℤ (downs_from (length known.now) start (C.downs here.now) row +ℤ below)) }
-    ensures least { pos 0 ≤ℤ result.0 }
-    ensures most { result.0 ≤ℤ gone }
+    ensures { IsPlaceSearched height row limit (numbers_from (length known.now) round start known.now row)
+        (downs_from (length known.now) start (C.downs here.now) row +ℤ below)
+        (rights_from (length known.now) start (N.rights next.now) row +ℤ sum) result.0 result.1 }
 {
     let rows = known.len();
     let by_h = sum + next.right(ring_row(rows, start + row));
@@ -217,14 +190,7 @@ pub(crate) fn search_column<C: ColumnCosts, N: ColumnCosts>(
 ) -> Window
     requires here_rows { C.rows here.now ≡ length known.now }
     requires next_rows { N.rows next.now ≡ length known.now }
-    requires start { start < length known.now }
-    requires few { length known.now ≤ MAX_COMPOSITE_VERTICES }
-    requires height { height < 2 * length known.now }
-    requires bounded { AreRowsBounded (length known.now) known.now }
-    requires round_least { pos 0 ≤ℤ round }
-    requires round_most { round ≤ℤ value_limit }
-    requires limit_least { pos 0 ≤ℤ limit }
-    requires limit_most { limit ≤ℤ value_limit }
+    requires range { IsSearchInRange start height round limit known.now }
     requires downs_least { (r : ℕ) → r < length known.now → pos 0 ≤ℤ C.downs here.now r }
     requires rights_least { (r : ℕ) → r < length known.now → pos 0 ≤ℤ N.rights next.now r }
     requires sums { AreSumsOf height sums.old }

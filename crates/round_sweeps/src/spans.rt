@@ -7,6 +7,7 @@ ghost use Rattle.strip_graph.specs.Edges.{IsLevel};
 ghost use Rattle.strip_graph.specs.Strips.{IsStrip, arcs, rows, cols};
 ghost use Rattle.strip_graph.specs.Words.{word_cost};
 ghost use Rattle.strip_graph.specs.Tilings.{IsChosen};
+ghost use Rattle.round_sweeps.specs.Levels.{AreLevelRings};
 ghost use Rattle.round_sweeps.specs.Planes.{ArePlanar, AreSpans, rise_limit};
 
 use crate::choosing::{Choice, choose_tiling};
@@ -71,14 +72,8 @@ fn choose_level(
     high: &[Point],
     space: &mut SweepSpace,
 ) -> Result<Option<Choice>, NoMemory>
-    requires strip { IsStrip pair.now }
     requires rule { pair.now.cost ≡ Span }
-    requires low_level { IsLevel pair.now.low }
-    requires high_level { IsLevel pair.now.high }
-    requires low { low.now ≡ pair.now.low }
-    requires high { high.now ≡ pair.now.high }
-    requires low_ring { IsRing low.now }
-    requires high_ring { IsRing high.now }
+    requires rings { AreLevelRings pair.now low.now high.now }
     ensures chosen { IfOk result (λ o.
         IfSome o (λ t. IsChosen (arcs pair.now) (rows pair.now) (cols pair.now) t.row t.word.items)) }
     ensures cost { IfOk result (λ o.

@@ -5,6 +5,7 @@ ghost use Rattle.strip_graph.specs.Edges.{IsLevel};
 ghost use Rattle.strip_graph.specs.Strips.{IsStrip, arcs, rows, cols};
 ghost use Rattle.strip_graph.specs.Words.{word_cost};
 ghost use Rattle.strip_graph.specs.Tilings.{IsChosen};
+ghost use Rattle.round_sweeps.specs.Levels.{AreLevelRings};
 ghost use Rattle.round_sweeps.specs.Tiles.{FitWeights, IsRuleOf, AreEndsOf, IsCountedChoice};
 
 use crate::choosing::{Choice, choose_tiling};
@@ -57,13 +58,7 @@ fn choose_weighed<W: Weighing>(
     weights: W,
     space: &mut SweepSpace,
 ) -> Result<Option<Choice>, NoMemory>
-    requires strip { IsStrip pair.now }
-    requires low_level { IsLevel pair.now.low }
-    requires high_level { IsLevel pair.now.high }
-    requires low { low.now ≡ pair.now.low }
-    requires high { high.now ≡ pair.now.high }
-    requires low_ring { IsRing low.now }
-    requires high_ring { IsRing high.now }
+    requires rings { AreLevelRings pair.now low.now high.now }
     requires rule { IsRuleOf pair.now.cost (W.weights weights) }
     requires fit { FitWeights (W.weights weights) }
     ensures { IfOk result (λ o. IfSome o (λ t. IsCountedChoice pair.now t.row t.word.items t.cost)) }
@@ -84,13 +79,7 @@ fn choose_counted(
     high: &[Point],
     space: &mut SweepSpace,
 ) -> Result<Option<Choice>, NoMemory>
-    requires strip { IsStrip pair.now }
-    requires low_level { IsLevel pair.now.low }
-    requires high_level { IsLevel pair.now.high }
-    requires low { low.now ≡ pair.now.low }
-    requires high { high.now ≡ pair.now.high }
-    requires low_ring { IsRing low.now }
-    requires high_ring { IsRing high.now }
+    requires rings { AreLevelRings pair.now low.now high.now }
     ensures { IfOk result (λ o. IfSome o (λ t. IsCountedChoice pair.now t.row t.word.items t.cost)) }
 {
     let rule = pair.cost();

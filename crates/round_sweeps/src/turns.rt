@@ -2,6 +2,7 @@
 ghost use Rattle.std.specs.Prelude.{◌≡◌, ℕ, ◌+◌, ◌*◌, ◌<◌, ◌≤◌, ℤ, pos, neg_ℤ, ◌+ℤ◌, ◌≤ℤ◌, IfOk, IsTrue, length, drop, take};
 ghost use Rattle.strip_graph.specs.Feasible.{IsRowPeriodic, lifted};
 ghost use Rattle.round_sweeps.specs.Columns.{start_limit, value_limit, table_at, AreRowsBounded};
+ghost use Rattle.round_sweeps.specs.Tables.{IsSearchable};
 ghost use Rattle.round_sweeps.specs.Searches.{way_of, way_at, numbers_from, downs_from, rights_from, AreSumsOf, IsWindow, IsBackColumn, IsSearchedTo, IsMet};
 ghost use Rattle.round_sweeps.specs.Searched.{guarded, spell};
 
@@ -41,16 +42,8 @@ fn search_next<C: ColumnCosts, N: ColumnCosts>(
 ) -> Window
     requires here_rows { C.rows here.now ≡ rows }
     requires next_rows { N.rows next.now ≡ rows }
-    requires start { start < rows }
-    requires few { rows ≤ MAX_COMPOSITE_VERTICES }
-    requires col { col ≤ MAX_COMPOSITE_VERTICES }
-    requires room { (col + 1) * rows ≤ length table.now }
+    requires search { IsSearchable rows col round table.now start limit }
     requires ways { (col + 1) * (rows + 1) ≤ length ways.old }
-    requires bounded { AreRowsBounded rows (drop (col * rows) table.now) }
-    requires round_least { pos 0 ≤ℤ round }
-    requires round_most { round ≤ℤ value_limit }
-    requires limit_least { pos 0 ≤ℤ limit }
-    requires limit_most { limit ≤ℤ value_limit }
     requires downs_least { (r : ℕ) → r < rows → pos 0 ≤ℤ C.downs here.now r }
     requires rights_least { (r : ℕ) → r < rows → pos 0 ≤ℤ N.rights next.now r }
     requires sums { AreSumsOf rows sums.old }
@@ -97,17 +90,9 @@ fn search_rest<S: StripColumns>(
 )
     requires rows { rows ≡ S.rows costs.now }
     requires cols { cols ≡ S.cols costs.now }
-    requires start { start < rows }
-    requires few { rows ≤ MAX_COMPOSITE_VERTICES }
-    requires few_cols { cols ≤ MAX_COMPOSITE_VERTICES }
-    requires room { (cols + 1) * rows ≤ length table.now }
+    requires search { IsSearchable rows cols round table.now start limit }
     requires ways { (cols + 1) * (rows + 1) ≤ length ways.old }
-    requires bounded { (c : ℕ) → c ≤ cols → AreRowsBounded rows (drop (c * rows) table.now) }
     requires periodic { IsRowPeriodic (S.costs costs.now) rows }
-    requires round_least { pos 0 ≤ℤ round }
-    requires round_most { round ≤ℤ value_limit }
-    requires limit_least { pos 0 ≤ℤ limit }
-    requires limit_most { limit ≤ℤ value_limit }
     requires sums { AreSumsOf rows sums.old }
     requires window { IsWindow rows window.first window.last sums.old }
     requires searched { IsSearchedTo (S.costs costs.now) (lifted rows round (table_at rows table.now)) start rows cols
@@ -141,18 +126,10 @@ pub fn search_turn<S: StripColumns>(
 ) -> bool
     requires rows { rows ≡ S.rows costs.now }
     requires cols { cols ≡ S.cols costs.now }
-    requires start { start < rows }
-    requires few { rows ≤ MAX_COMPOSITE_VERTICES }
-    requires few_cols { cols ≤ MAX_COMPOSITE_VERTICES }
-    requires room { (cols + 1) * rows ≤ length table.now }
+    requires search { IsSearchable rows cols round table.now start limit }
     requires ways { (cols + 1) * (rows + 1) ≤ length ways.old }
     requires sums { length sums.old ≡ rows + 1 }
-    requires bounded { (c : ℕ) → c ≤ cols → AreRowsBounded rows (drop (c * rows) table.now) }
     requires periodic { IsRowPeriodic (S.costs costs.now) rows }
-    requires round_least { pos 0 ≤ℤ round }
-    requires round_most { round ≤ℤ value_limit }
-    requires limit_least { pos 0 ≤ℤ limit }
-    requires limit_most { limit ≤ℤ value_limit }
     ensures length { length ways.new ≡ length ways.old }
     ensures met { IsTrue result → IsMet (S.costs costs.now) rows cols round table.now start limit ways.new }
 {

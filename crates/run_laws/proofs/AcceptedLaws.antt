@@ -19,9 +19,11 @@ use Rattle.pair_pool.specs.Solvers.{SolvesEach}
 use Rattle.cert_checker.specs.declared.certs.CertText.{CertText}
 use Rattle.cert_checker.specs.declared.certs.Verdict.TheVariants.{Accept}
 use Rattle.cert_checker.specs.CertTexts.{CertParts, cert_text, certificate_parts}
-use Rattle.cert_checker.specs.CertReading.{IsCertFault, ReadsAsCertificate, kept_behind}
+use Rattle.text_io.specs.Formats.{kept_behind}
+use Rattle.cert_checker.specs.CertReading.{IsCertFault, ReadsAsCertificate}
 use Rattle.cert_checker.specs.Verdicts.{IsVerdict}
 use Rattle.cert_checker.proofs.TextLaws.{reads_one}
+use Rattle.cert_checker.proofs.PrintedSizes.{text_size}
 use Rattle.section_pairs.specs.Pairs.{PairParts}
 use Rattle.surface_core.specs.Objects.{AreAllPairs, IsFoundIn, numbered}
 use Rattle.surface_core.specs.Surfaces.{strips_in}
@@ -41,7 +43,6 @@ use Rattle.surface_cli.specs.Headline.{AsksFor}
 use Rattle.run_laws.specs.Laws.{EndsLine, IsListedCost}
 use Rattle.run_laws.proofs.AfterFeed.{front_of}
 use Rattle.run_laws.proofs.CertLaws.{cert_or_fault, no_such, same_pair}
-use Rattle.run_laws.proofs.CertSizes.{text_size}
 use Rattle.run_laws.proofs.DoneLaws.{of_input, of_objects, of_words, same_text}
 use Rattle.run_laws.proofs.ReplyLaws.{IsTelling, IsToldFault}
 use Rattle.run_laws.proofs.RunLaws.{telling}

@@ -5,7 +5,7 @@ use Rattle.text_io.specs.Text.{fed_lines, is_feed, is_kept, kept_from, kept_line
 use Rattle.text_io.specs.WordLists.{Kept}
 use Rattle.section_core.specs.Parts.{FileParts}
 use Rattle.section_core.specs.Texts.{IsTextOfFile}
-use Rattle.cert_checker.specs.CertReading.{kept_behind}
+use Rattle.text_io.specs.Formats.{kept_behind}
 use Rattle.command_replies.specs.Stages.{IsFront}
 use Rattle.run_laws.specs.Laws.{EndsLine}
 

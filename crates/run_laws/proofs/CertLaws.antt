@@ -22,7 +22,8 @@ use Rattle.cert_checker.specs.declared.certs.Verdict.TheVariants.{Accept, Size, 
 use Rattle.cert_checker.specs.CertTexts.{CertParts, cert_text, certificate_parts}
 use Rattle.cert_checker.specs.CertReading.{ReadsAsCertificate, IsCertFault}
 use Rattle.cert_checker.specs.Verdicts.{FitsPair, IsFirstStep, IsFirstRow, IsVerdict}
-use Rattle.cert_checker.proofs.TextLaws.{reads_one, one_fault, no_fault}
+use Rattle.text_io.proofs.FormatLaws.{one_line_fault, no_line_fault}
+use Rattle.cert_checker.proofs.TextLaws.{reads_one}
 use Rattle.section_pairs.specs.Pairs.{PairParts}
 use Rattle.command_replies.specs.Reply.{Reply, refused, fails, goes_on, NoFault}
 use Rattle.pair_commands.specs.OnePair.{IsNoPair, IsPairOf, on_pair}
@@ -110,11 +111,11 @@ one_certify k F = one_numbered F _
 -- a text of a certificate has one reading, or one fault
 one_cert_fault : (tail : List Kept) (last : ℕ) (f g : Fault) → IsToldFault f → IsToldFault g → IsCertFault tail last f
     → IsCertFault tail last g → f ≡ g
-one_cert_fault tail last f g t u h k = h.2 ∙ ap (λ (l : ℕ). CertForm l) (one_fault tail last h.0 k.0 h.1 k.1) ∙ sym k.2
+one_cert_fault tail last f g t u h k = h.2 ∙ ap (λ (l : ℕ). CertForm l) (one_line_fault tail last h.0 k.0 h.1 k.1) ∙ sym k.2
 
 pub cert_or_fault : (tail : List Kept) (last : ℕ) (C : CertParts) (f : Fault) → IsToldFault f
     → ReadsAsCertificate tail C → IsCertFault tail last f → ⊥
-cert_or_fault tail last C f t is h = no_fault tail last h.0 C is h.1
+cert_or_fault tail last C f t is h = no_line_fault tail last h.0 C is h.1
 
 one_certs : (last : ℕ) (tail : List Kept) (rule : CertText → Reply → Type 0)
     → ((c d : CertText) → certificate_parts c ≡ certificate_parts d → Agree (rule c) (rule d))

@@ -17,14 +17,5 @@ mod ThreeLaws
 mod ClosedLaws
 mod EditedLaws
 mod AfterFeed
-mod CertSizes
 mod AcceptedLaws
-mod WorkedSurfaceRules
-mod WorkedEditRules
-mod WorkedRuns
-mod WorkedHeadline
 mod WorkedLaws
-mod WorkedReplies
-mod WorkedStages
-mod WorkedPairRules
-mod WorkedMarkRules

@@ -1,13 +1,4 @@
-mod WorkedWords
 mod WorkedHeld
-mod WorkedMade
 mod WorkedReading
 mod WorkedEdits
-mod WorkedLaterFaults
-mod WorkedSlices
-mod WorkedLimits
-mod WorkedObjects
 mod WorkedRings
-mod WorkedMiddles
-mod WorkedMiddleFaults
-mod WorkedCrossings

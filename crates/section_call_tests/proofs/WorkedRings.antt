@@ -1,75 +1,53 @@
--- Surfaces with caps of groups, at a square with a hole; and groups that are too long, by their sizes.
-use Rattle.std.proofs.Common.{◌≡◌, ℕ, List, [], ◌∷◌, pos, refl, sym, subst, arith}
-use Rattle.std.proofs.lemmas.List.Elements.{All-cons, All-nil}
-use Rattle.fku_types.specs.Points.{square}
+-- Squares, the last of a list, and rings, at worked examples.
+use Rattle.std.proofs.Common.{◌≡◌, ℕ, ℤ, List, [], ◌∷◌, pos, negsuc, Vec, refl, arith}
+use Rattle.std.specs.Prelude.{All}
+use Rattle.std.specs.declared.alloc.Global.{Global}
+use Rattle.std.proofs.lemmas.List.Elements.{All-from_recursion}
 use Rattle.fku_types.specs.declared.points.Point.{Point}
-use Rattle.fku_types.specs.declared.fault.Fault.TheVariants.{CapLimit}
-use Rattle.plane_geom.specs.Lengths.{distance_square}
-use Rattle.plane_geom.specs.Nesting.{is_inside}
-use Rattle.section_core.specs.Parts.{FileParts, Parts}
-use Rattle.correspondence.specs.Nesting.{depth, ring_from, oriented}
-use Rattle.ring_polygons.specs.Composites.{least_bridge}
-use Rattle.ring_polygons.specs.Caps.{is_ear, places_by}
-use Rattle.section_pairs.specs.Pairs.{PairParts, IsShort}
-use Rattle.section_pairs.specs.SectionFaults.{IsFirstFault, ArePairs}
-use Rattle.section_pairs.proofs.Worked.{squares, at, contour, stack}
-use Rattle.section_pairs.proofs.WorkedSquares.{corner, pair}
-use Rattle.surface_core.specs.Objects.{objects_in, AreAllPairs}
-use Rattle.ring_caps.specs.Groups.{parent}
-use Rattle.ring_caps.specs.RingSurfaces.{IsRingSurface, HasLongGroup, IsRingFound, group_sizes, all_group_sizes, IsRingFoundIn}
+use Rattle.fku_types.specs.Points.{square, IsCoordinate, IsInRange}
+use Rattle.plane_geom.specs.Rings.{IsRing}
+use Rattle.plane_geom.specs.RingViews.{ring_view, ring_views, IsContour}
+use Rattle.plane_geom.specs.declared.ring.Ring.{Ring}
+use Rattle.strip_graph.proofs.ComputedTests.{list_at}
+use Rattle.section_core.specs.Steps.{add_last, last, push_last, last_list}
 
--- ---- surfaces
+abbrev at : ℤ → ℤ → ℤ → Point
+at x y z = record { x = x; y = y; z = z }
 
--- a square with a square hole, by itself: a group of two
-abbrev holed : Parts
-holed = stack (at 0 (contour 111 ((pos 0, pos 0) ∷ (pos 30, pos 0) ∷ (pos 30, pos 30) ∷ (pos 0, pos 30) ∷ [])
-    ∷ contour 104 ((pos 10, pos 10) ∷ (pos 20, pos 10) ∷ (pos 20, pos 20) ∷ (pos 10, pos 20) ∷ []) ∷ []) ∷ [])
+-- squares of integers
+squares : square (negsuc 11) ≡ 144
+unfolding square
+squares = refl
 
-abbrev holed_vertices : List Point
-holed_vertices = corner 0 0 0 ∷ corner 30 0 0 ∷ corner 30 30 0 ∷ corner 0 30 0 ∷ corner 10 10 0 ∷ corner 20 10 0
-    ∷ corner 20 20 0 ∷ corner 10 20 0 ∷ []
+-- what the last of a list becomes
+lasts : (add_last (1 ∷ 2 ∷ 4 ∷ []) 3 ≡ 1 ∷ 2 ∷ 7 ∷ []) × (last (1 ∷ 2 ∷ 4 ∷ []) ≡ 4)
+    × (push_last ((pos 1 ∷ []) ∷ [] ∷ []) (pos 3) ≡ (pos 1 ∷ []) ∷ (pos 3 ∷ []) ∷ [])
+    × (last_list ((pos 1 ∷ []) ∷ (pos 2 ∷ pos 3 ∷ []) ∷ []) ≡ pos 2 ∷ pos 3 ∷ [])
+lasts = (refl, refl, refl, refl)
 
--- its points in file order, and one part: the bottom cap, turned over, and the top cap, which leave the hole open
-holed_surface : IsRingSurface holed [] [] (record {
-  vertices = holed_vertices;
-  parts = (
-      (3 ∷ 4 ∷ 0 ∷ []) ∷ (3 ∷ 7 ∷ 4 ∷ []) ∷ (3 ∷ 6 ∷ 7 ∷ []) ∷ (5 ∷ 0 ∷ 4 ∷ []) ∷ (5 ∷ 1 ∷ 0 ∷ []) ∷ (6 ∷ 1 ∷ 5 ∷ [])
-      ∷ (6 ∷ 2 ∷ 1 ∷ []) ∷ (6 ∷ 3 ∷ 2 ∷ [])
-      ∷ (3 ∷ 0 ∷ 4 ∷ []) ∷ (3 ∷ 4 ∷ 7 ∷ []) ∷ (3 ∷ 7 ∷ 6 ∷ []) ∷ (5 ∷ 4 ∷ 0 ∷ []) ∷ (5 ∷ 0 ∷ 1 ∷ []) ∷ (6 ∷ 5 ∷ 1 ∷ [])
-      ∷ (6 ∷ 1 ∷ 2 ∷ []) ∷ (6 ∷ 2 ∷ 3 ∷ []) ∷ []
-      ) ∷ [];
-})
-unfolding parent oriented ring_from depth is_inside least_bridge distance_square square is_ear places_by
-holed_surface = record { vertices = refl; one_part = refl }
+-- rings of contours and of pairs
+abbrev corners : List Point
+corners = at (pos 0) (pos 0) (pos 7) ∷ at (pos 999999) (pos 0) (pos 7) ∷ at (pos 0) (negsuc 999998) (pos 7) ∷ []
 
--- ---- groups
+all_in_range : All IsInRange corners
+all_in_range = All-from_recursion IsInRange corners (
+  near _ (omega arith) (omega arith) (omega arith),
+  (near _ (omega arith) (omega arith) (omega arith), (near _ (omega arith) (omega arith) (omega arith), tt)),
+)
+  where
+    near : (p : Point) → IsCoordinate p.x → IsCoordinate p.y → IsCoordinate p.z → IsInRange p
+    near p x y z = record { x = x; y = y; z = z }
 
--- sections are counted in their object, from 1; and each object has the sizes of its own pairs
-sizes : all_group_sizes (holed ∷ squares ∷ []) ([] ∷ (pair ∷ []) ∷ []) ≡ (1, 10) ∷ (1, 10) ∷ (1, 4) ∷ (2, 4) ∷ []
-unfolding parent oriented ring_from depth is_inside least_bridge distance_square square
-sizes = refl
+abbrev ring : Vec ℕ Global → Ring
+ring v = record { points = list_at v corners tt; ids = list_at v (4 ∷ 5 ∷ 6 ∷ []) tt; one_id_each = refl }
 
--- the first composite of more than 4,096 vertices; the fault has its section and its size
-first_long : IsFirstFault IsShort HasLongGroup ((1, 4) ∷ (2, 4097) ∷ (2, 5000) ∷ []) (CapLimit 2 4097)
-first_long = record {
-  before = (1, 4) ∷ [];
-  item = (2, 4097);
-  after = (2, 5000) ∷ [];
-  split = refl;
-  good_before =
-      All-cons IsShort (1, 4) [] (omega arith) (All-nil IsShort);
-  has = (refl, refl, omega arith);
-}
+contours : (v : Vec ℕ Global) → IsContour (ring v)
+    × (ring_view (ring v) ≡ record { points = corners; ids = 4 ∷ 5 ∷ 6 ∷ [] }) × IsRing corners
+contours v = (
+  record { enough = omega arith; few = omega arith; in_range = all_in_range },
+  refl,
+  record { enough = omega arith; few = omega arith; in_range = all_in_range },
+)
 
--- ---- the first fault
-
--- if sections have their pairs, whatever they are, the first group that is too long; and the same for objects
-found : (S : Parts) (ps : List PairParts) → ArePairs S ps → group_sizes S ps ≡ (1, 4) ∷ (2, 4097) ∷ (2, 5000) ∷ []
-    → IsRingFound S (CapLimit 2 4097)
-found S ps are e = IsRingFound.in_groups (CapLimit 2 4097) ps are
-    (subst (λ (l : List (ℕ × ℕ)). IsFirstFault IsShort HasLongGroup l (CapLimit 2 4097)) (sym e) first_long)
-
-found_among : (F : FileParts) (pss : List (List PairParts)) → AreAllPairs F pss
-    → all_group_sizes (objects_in F) pss ≡ (1, 4) ∷ (2, 4097) ∷ (2, 5000) ∷ [] → IsRingFoundIn F (CapLimit 2 4097)
-found_among F pss are e = IsRingFoundIn.in_groups (CapLimit 2 4097) pss are
-    (subst (λ (l : List (ℕ × ℕ)). IsFirstFault IsShort HasLongGroup l (CapLimit 2 4097)) (sym e) first_long)
+views : (v : Vec ℕ Global) → ring_views (ring v ∷ ring v ∷ []) ≡ ring_view (ring v) ∷ ring_view (ring v) ∷ []
+views v = refl

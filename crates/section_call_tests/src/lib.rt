@@ -27,5 +27,3 @@ mod slice_tests;
 mod surface_tests;
 #[cfg(test)]
 mod texts;
-#[cfg(test)]
-mod volume_tests;

@@ -156,8 +156,9 @@ file_items-are F h = (
 pub state-of_begins : (w : Version) (laws : List Law) (lines : List Line) → Begins w laws lines → (end : State)
     × (take_lines w at_version lines ≡ Some end) × KeepsAll laws (facts (parts_of end))
 state-of_begins w laws lines b =
-    lines_read laws w b.parts b.keeps at_version (file_items b.parts) lines b.front b.rest
-    (file_items-are b.parts b.is_file) (items-lines b.parts ∙ b.split) b.match (run_whole w b.parts b.is_file b.known)
+    lines_read laws w b.says b.lawful.keeps at_version (file_items b.says) lines b.front b.rest
+    (file_items-are b.says b.lawful.is_file) (items-lines b.says ∙ b.split) b.match
+    (run_whole w b.says b.lawful.is_file b.lawful.known)
 
 -- the items that lines said
 pub record Said (w : Version) (state : State) (lines : List Line) (end : State) : Type 0 where
@@ -188,10 +189,12 @@ begins-of_state w laws lines end e k =
     let said = lines_said w at_version lines end tt e in
     let items-are : so_far end ≡ said.items = so_far-run w at_version said.items end said.leads in
     record {
-      parts = completed end;
-      is_file = (sound-completed w end said.sound).0;
-      known = (sound-completed w end said.sound).1;
-      keeps = keeps_all-completed laws end k;
+      says = completed end;
+      lawful = record {
+        is_file = (sound-completed w end said.sound).0;
+        known = (sound-completed w end said.sound).1;
+        keeps = keeps_all-completed laws end k;
+      };
       front = map item_line said.items;
       rest = map item_line (complete end);
       split = sym (items-lines (completed end))

@@ -23,13 +23,10 @@ keeps-take-le (suc j) (suc k) (law ∷ laws) f le h = (h.0, keeps-take-le j k la
 fewer : (v : Version) (laws less : List Law) (lines : List Line) → ((f : Facts) → KeepsAll laws f → KeepsAll less f)
     → Begins v laws lines → Begins v less lines
 fewer v laws less lines w b = record {
-  parts = b.parts;
-  is_file = b.is_file;
-  known = b.known;
-  keeps = w (facts b.parts) b.keeps;
+  says = b.says;
+  lawful = record { is_file = b.lawful.is_file; known = b.lawful.known; keeps = w (facts b.says) b.lawful.keeps };
   front = b.front;
-  rest =
-      b.rest;
+  rest = b.rest;
   split = b.split;
   match = b.match;
 }

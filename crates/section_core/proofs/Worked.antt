@@ -119,18 +119,6 @@ next_cost : (first_broken nothing (cost_is (mix (pos 1000) (pos 0))) ≡ None)
     × (first_broken nothing (cost_is (mix (negsuc 0) (pos 1))) ≡ Some in_range)
 next_cost = (refl, refl, refl, refl, refl, refl)
 
-no_weights : HasBreach One (kept_lines (codes "SECTIONS 1\nCOST mix 0 00\n")) 2 (broken in_range)
-no_weights = file_holds One (kept_lines (codes "SECTIONS 1\nCOST mix 0 00\n"))
-
-negative_weight : HasBreach One (kept_lines (codes "SECTIONS 1\nCOST mix -1 1\n")) 2 (broken in_range)
-negative_weight = file_holds One (kept_lines (codes "SECTIONS 1\nCOST mix -1 1\n"))
-
-one_weight : HasBreach One (kept_lines (codes "SECTIONS 1\nCOST mix 1\n")) 2 form
-one_weight = file_holds One (kept_lines (codes "SECTIONS 1\nCOST mix 1\n"))
-
-three_weights : HasBreach One (kept_lines (codes "SECTIONS 1\nCOST mix 1 2 3\n")) 2 form
-three_weights = file_holds One (kept_lines (codes "SECTIONS 1\nCOST mix 1 2 3\n"))
-
 -- the limits, at each and one past it; sections are counted over all objects
 full_links : KeepsLimit Links (record nothing { links = 131072 })
     × (KeepsLimit Links (record nothing { links = 131073 }) → ⊥)

@@ -6,23 +6,23 @@ use Rattle.fku_types.specs.declared.fault.Fault.TheVariants.{Form, Range, NameTw
 use Rattle.section_core.specs.declared.parts.Version.{Version}
 use Rattle.section_core.specs.declared.parts.Version.TheVariants.{One}
 use Rattle.section_core.specs.Parts.{Parts, ObjectParts, FileParts, IsFile, is_read, as_file, file_lines, contours_of}
-use Rattle.text_io.specs.WordLists.{Word, Matches, Line, Kept, lines_of}
+use Rattle.text_io.specs.WordLists.{Matches, Line, Kept, lines_of}
+use Rattle.text_io.specs.Formats.{BeginsAny}
 use Rattle.section_core.specs.Laws.{Law, in_range, name_once, rising, within, law_order, facts, KeepsAll, IsLawfulFile}
 
 -- no line of these is the line END
 abbrev pub HasNoEnd : List Line → Type 0
 HasNoEnd lines = AllByRecursion (λ line. line ≡ codes "END" ∷ [] → ⊥) lines
 
--- The lines match a prefix of the lines of some parts of a version that is read, and these parts keep these laws.
-pub record Begins (latest : Version) (laws : List Law) (lines : List Line) : Type 0 where
-  pub parts : FileParts
-  pub is_file : IsFile parts
-  pub known : is_read latest parts.version ≡ true
-  pub keeps : KeepsAll laws (facts parts)
-  pub front : List (List Word)
-  pub rest : List (List Word)
-  pub split : file_lines parts ≡ front ++ rest
-  pub match : AllZip Matches lines front
+-- the parts are of a version that is read, and keep these laws
+pub record IsUnderLaws (latest : Version) (laws : List Law) (F : FileParts) : Type 0 where
+  pub is_file : IsFile F
+  pub known : is_read latest F.version ≡ true
+  pub keeps : KeepsAll laws (facts F)
+
+-- The lines match a prefix of the lines of some such parts.
+abbrev pub Begins : Version → List Law → List Line → Type 0
+Begins latest laws lines = BeginsAny (IsUnderLaws latest laws) file_lines lines
 
 -- what is wrong with a line: it cannot be read at its place, or it breaks a law
 pub data Breach : Type 0 where

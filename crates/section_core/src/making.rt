@@ -6,13 +6,12 @@ ghost use Rattle.section_core.specs.Costs.{cost_parts};
 ghost use Rattle.section_core.specs.Numbers.{NumberIs};
 ghost use Rattle.section_core.specs.Machine.{section, contour};
 ghost use Rattle.section_core.specs.Laws.{Facts};
-ghost use Rattle.section_core.specs.Steps.{after, first_broken, is_coordinate, is_weighted, are_weights};
+ghost use Rattle.section_core.specs.Steps.{after, first_broken, is_weighted, are_weights};
 ghost use Rattle.section_core.specs.Tallies.{Tallies, Admits, Judges};
 ghost use Rattle.section_core.specs.Made.{Walks, section_pieces, contour_pieces, link_piece, is_good, IsNamed, AreNamed, IsLinkNamed, ArePiecesLawful, pieces_of, IsPieceFault, IsMakeMemory, nothing};
 
 use crate::parts::{Contour, Link, Section};
-use crate::tally::{Tally, coordinate, mix, point_count};
-use fku_types::limits::MAX_COORDINATE;
+use crate::tally::{Tally, coordinate, is_coordinate, mix, point_count};
 use fku_types::{CostRule, Fault, LimitName, Name, Point};
 use std::alloc::Global;
 use text_io::Number;
@@ -46,12 +45,6 @@ fn admit_name(name: &Name, count: Number, tally: &mut Tally) -> Result<(), Fault
         return Err(Fault::Limit { limit, line: 0 });
     };
     tally.contour(name, count, 0)
-}
-
-fn is_coordinate(value: i32) -> bool
-    ensures { result ≡ is_coordinate value }
-{
-    -(MAX_COORDINATE as i32) <= value && value <= MAX_COORDINATE as i32
 }
 
 fn is_good(section: &Section, point: &Point) -> bool

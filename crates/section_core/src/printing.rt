@@ -15,36 +15,21 @@ use crate::parts::{Contour, Link, Section, Version};
 use crate::sections::Sections;
 use fku_types::limits::MAX_INPUT_BYTES;
 use fku_types::{CostRule, Name, NoMemory, PairRule, Point};
-use itoa::Buffer;
 use std::alloc::{AllocError, Global};
+use text_io::{put, put_count, put_number};
 
-fn put(out: &mut Vec<u8>, bytes: &[u8]) -> Result<(), AllocError>
-    ensures { OnOk result (out.new.items ≡ out.old.items ++ bytes.now) }
-{
-    out.extend_from_slice(bytes)?;
-    Ok(())
-}
-
-fn put_number(out: &mut Vec<u8>, z: i32) -> Result<(), AllocError>
+fn put_coordinate(out: &mut Vec<u8>, z: i32) -> Result<(), AllocError>
     ensures { OnOk result (out.new.items ≡ out.old.items ++ signed_decimal z) }
 {
-    let mut buffer = Buffer::new();
-    put(out, buffer.format(z).as_bytes())
-}
-
-fn put_count(out: &mut Vec<u8>, count: usize) -> Result<(), AllocError>
-    ensures { OnOk result (out.new.items ≡ out.old.items ++ decimal count) }
-{
-    let mut buffer = Buffer::new();
-    put(out, buffer.format(count).as_bytes())
+    put_number(out, i64::from(z))
 }
 
 fn put_point(out: &mut Vec<u8>, point: &Point) -> Result<(), AllocError>
     ensures { OnOk result (out.new.items ≡ out.old.items ++ point_text point.now) }
 {
-    put_number(out, point.x)?;
+    put_coordinate(out, point.x)?;
     put(out, b" ")?;
-    put_number(out, point.y)?;
+    put_coordinate(out, point.y)?;
     put(out, b"\n")
 }
 
@@ -89,7 +74,7 @@ fn put_height(out: &mut Vec<u8>, z: i32) -> Result<(), AllocError>
     ensures { OnOk result (out.new.items ≡ out.old.items ++ line_text (text (codes "SECTION") ∷ number z ∷ [])) }
 {
     put(out, b"SECTION ")?;
-    put_number(out, z)?;
+    put_coordinate(out, z)?;
     put(out, b"\n")
 }
 

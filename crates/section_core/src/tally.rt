@@ -30,6 +30,13 @@ pub fn coordinate(number: Number) -> Option<i32>
     }
 }
 
+/// Whether a number is in the range of coordinates and heights. Takes no memory.
+pub fn is_coordinate(value: i32) -> bool
+    ensures { result ≡ is_coordinate value }
+{
+    -(MAX_COORDINATE as i32) <= value && value <= MAX_COORDINATE as i32
+}
+
 /// The count of a contour's points, if it is within its limits.
 pub fn point_count(number: Number) -> Option<u32>
     ensures bounds { IfSome result (λ n. (3 ≤ n) × (n ≤ MAX_CONTOUR_VERTICES)) }

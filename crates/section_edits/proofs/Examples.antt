@@ -1,21 +1,14 @@
 -- The worked edits of two squares, computed.
-use Rattle.std.proofs.Common.{◌≡◌, ℕ, pos, negsuc, ◌≤◌, List, [], ◌∷◌, length, get_or, None, Some, refl, sym, ap, ◌∙◌, lit<, arith}
+use Rattle.std.proofs.Common.{◌≡◌, ℕ, pos, negsuc, List, [], ◌∷◌, Some, refl, sym, ap, ◌∙◌, lit<}
 use Rattle.std.specs.Prelude.{codes}
-use Rattle.std.specs.List.{AllByRecursion}
 use Rattle.std.proofs.lemmas.Bool.{false≢true}
-use Rattle.std.proofs.lemmas.Int.{ints}
-use Rattle.fku_types.proofs.ListLaws.{all_join}
 use Rattle.fku_types.specs.declared.points.Spot.{Spot as Place}
 use Rattle.fku_types.specs.declared.rules.PairRule.TheVariants.{Overlap}
-use Rattle.fku_types.specs.declared.fault.Fault.TheVariants.{NoContours}
 use Rattle.section_core.specs.Steps.{is_coordinate}
-use Rattle.section_core.specs.Laws.{IsSpot, IsLawful}
-use Rattle.section_core.specs.Reading.{HasContour}
 use Rattle.section_core.specs.Parts.{span, Spot, ContourParts, SectionParts, Parts}
 use Rattle.text_io.specs.Text.{words}
-use Rattle.section_edits.specs.declared.edit.Edit.{Edit}
 use Rattle.section_edits.specs.declared.edit.Edit.TheVariants.{Move, Insert, Remove, AddContour, RemoveContour}
-use Rattle.section_edits.specs.declared.edit.EditFault.TheVariants.{EditForm, NoContour, NoSection, NoVertex, TooFew, NameTwice, Found}
+use Rattle.section_edits.specs.declared.edit.EditFault.TheVariants.{EditForm, NoContour, NoSection, NoVertex, TooFew, NameTwice}
 use Rattle.section_edits.specs.Lines.{ReadsAsEdit, IsNoEdit}
 use Rattle.section_edits.specs.Changes.{contour_with, changed}
 use Rattle.section_edits.specs.Refusals.{IsRefusal}
@@ -49,64 +42,9 @@ squares = with_b square
 abbrev triangle : Parts
 triangle = with_b (at 10 0 ∷ at 10 10 ∷ at 0 10 ∷ [])
 
--- ---- moves that cross and that do not
+-- ---- a move, and the move back
 moved : changed squares (Move b 2 (pos 12) (pos 12)) ≡ with_b (at 0 0 ∷ at 10 0 ∷ at 12 12 ∷ at 0 10 ∷ [])
 moved = refl
-
--- sections with this contour b keep all laws
-lawful_with : (spots : List Spot) → 3 ≤ length spots → length spots ≤ 4096 → AllByRecursion IsSpot spots
-    → IsLawful (with_b spots) × HasContour (with_b spots)
-lawful_with spots enough few near = (
-  record {
-    in_range = (omega arith, (omega arith, tt));
-    spots = (
-      (omega arith, omega arith),
-      (
-        (omega arith, omega arith),
-        (
-          (omega arith, omega arith),
-          ((omega arith, omega arith), all_join IsSpot spots [] near tt),
-        ),
-      ),
-    );
-    weighted = tt;
-    apart = (((λ e. other_name e), tt), (tt, tt));
-    rising = (omega (arith, ints), tt);
-    counted = (
-      (omega (arith, ints), omega (arith, ints)),
-      ((omega (arith, ints, enough), omega (arith, ints, few)), tt),
-    );
-    small = (omega arith, (omega (arith, few), tt));
-    few_vertices = omega (arith, few);
-    few_contours = omega arith;
-    few_sections = omega arith;
-    few_links = omega arith;
-  },
-  omega arith,
-)
-  where
-    other_name : a ≡ b → ⊥
-    other_name e = absurd (omega (arith, ap (λ (w : List ℕ). get_or w 0 0) e))
-
-near : (x y : ℕ) → x ≤ 99 → y ≤ 99 → IsSpot (at x y)
-near x y l m = (omega (arith, l), omega (arith, m))
-
-abbrev IsFine : Parts → Edit → Type 0
-IsFine S e = IsRefusal S e None
-
-not_refused : IsFine squares (Move b 2 (pos 12) (pos 12))
-not_refused =
-    lawful_with (at 0 0 ∷ at 10 0 ∷ at 12 12 ∷ at 0 10 ∷ []) (omega arith) (omega arith) (
-      near 0 0 (omega arith) (omega arith),
-      (
-        near 10 0 (omega arith) (omega arith),
-        (near 12 12 (omega arith) (omega arith), (near 0 10 (omega arith) (omega arith), tt)),
-      ),
-    )
-
-moved_across : changed squares (Move b 2 (negsuc 4) (pos 5))
-    ≡ with_b (at 0 0 ∷ at 10 0 ∷ (negsuc 4, pos 5) ∷ at 0 10 ∷ [])
-moved_across = refl
 
 moved_back : changed (changed squares (Move b 2 (pos 12) (pos 12))) (Move b 2 (pos 10) (pos 10)) ≡ squares
 moved_back = refl
@@ -114,19 +52,6 @@ moved_back = refl
 -- ---- one more vertex, at the end, and its removal
 inserted : changed squares (Insert b 4 (pos 0) (pos 5)) ≡ with_b (at 0 0 ∷ at 10 0 ∷ at 10 10 ∷ at 0 10 ∷ at 0 5 ∷ [])
 inserted = refl
-
-inserted_fine : IsFine squares (Insert b 4 (pos 0) (pos 5))
-inserted_fine =
-    lawful_with (at 0 0 ∷ at 10 0 ∷ at 10 10 ∷ at 0 10 ∷ at 0 5 ∷ []) (omega arith) (omega arith) (
-      near 0 0 (omega arith) (omega arith),
-      (
-        near 10 0 (omega arith) (omega arith),
-        (
-          near 10 10 (omega arith) (omega arith),
-          (near 0 10 (omega arith) (omega arith), (near 0 5 (omega arith) (omega arith), tt)),
-        ),
-      ),
-    )
 
 removed_again : changed (changed squares (Insert b 4 (pos 0) (pos 5))) (Remove b 4) ≡ squares
 removed_again = refl
@@ -143,13 +68,6 @@ no_vertex = refl
 
 removed : changed squares (Remove b 0) ≡ triangle
 removed = refl
-
-removed_fine : IsFine squares (Remove b 0)
-removed_fine =
-    lawful_with (at 10 0 ∷ at 10 10 ∷ at 0 10 ∷ []) (omega arith) (omega arith) (
-      near 10 0 (omega arith) (omega arith),
-      (near 10 10 (omega arith) (omega arith), (near 0 10 (omega arith) (omega arith), tt)),
-    )
 
 too_few : IsRefusal triangle (Remove b 0) (Some (TooFew b))
 too_few = refl
@@ -173,45 +91,6 @@ too_far = refl
 
 dropped : changed triangle (RemoveContour b) ≡ of_sections (section 0 (contour_with a square ∷ []) ∷ section 10 [] ∷ [])
 dropped = refl
-
-dropped_fine : IsFine triangle (RemoveContour b)
-dropped_fine = (
-  record {
-    in_range = (omega arith, (omega arith, tt));
-    spots = (
-      (omega arith, omega arith),
-      ((omega arith, omega arith), ((omega arith, omega arith), ((omega arith, omega arith), tt))),
-    );
-    weighted = tt;
-    apart = (tt, tt);
-    rising = (omega (arith, ints), tt);
-    counted = ((omega (arith, ints), omega (arith, ints)), tt);
-    small = (omega arith, (omega arith, tt));
-    few_vertices = omega arith;
-    few_contours = omega arith;
-    few_sections = omega arith;
-    few_links = omega arith;
-  },
-  omega arith,
-)
-
-nothing_left : IsRefusal (changed triangle (RemoveContour b)) (RemoveContour a) (Some (Found NoContours))
-nothing_left = (
-  record {
-    in_range = (omega arith, (omega arith, tt));
-    spots = tt;
-    weighted = tt;
-    apart = tt;
-    rising = (omega (arith, ints), tt);
-    counted = tt;
-    small = (omega arith, (omega arith, tt));
-    few_vertices = omega arith;
-    few_contours = omega arith;
-    few_sections = omega arith;
-    few_links = omega arith;
-  },
-  refl,
-)
 
 -- ---- lines
 move_line : ReadsAsEdit (words (codes "MOVE b 2 12 12")) (Move b 2 (pos 12) (pos 12))

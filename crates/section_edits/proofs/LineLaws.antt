@@ -1,33 +1,13 @@
 -- A line stands for at most one edit.
-use Rattle.std.proofs.Common.{◌≡◌, ℕ, pos, Some, List, [], ◌∷◌, get_or, sym, refl, ap, ap₂, ◌∙◌, arith}
+use Rattle.std.proofs.Common.{◌≡◌, ℕ, pos, List, [], ◌∷◌, get_or, refl, ap, ap₂, arith}
 use Rattle.std.specs.List.{AllZip, flat_map}
 use Rattle.fku_types.specs.declared.points.Spot.{Spot}
-use Rattle.text_io.specs.WordLists.{Word, text, number, Matches, MatchesWord}
+use Rattle.text_io.specs.WordLists.{Matches}
 use Rattle.section_edits.specs.declared.edit.Edit.{Edit}
 use Rattle.section_edits.specs.declared.edit.Edit.TheVariants.{Move, Insert, Remove, AddContour, RemoveContour}
 use Rattle.section_edits.specs.Lines.{edit_words, spot_words}
 use Rattle.section_edits.proofs.Wording.{same_spot}
-
--- two words that one word of a line can be are equal
-abbrev SameWord : Word → Word → Type 0
-SameWord (text s) (text t) = s ≡ t
-SameWord (number m) (number n) = m ≡ n
-SameWord (text s) (number n) = Unit {0}
-SameWord (number m) (text t) = Unit {0}
-
-same_word : (w : List ℕ) (p q : Word) → MatchesWord w p → MatchesWord w q → SameWord p q
-same_word w (text s) (text t) h k = sym h ∙ k
-same_word w (number m) (number n) h k = let e : Some m ≡ Some n = sym h ∙ k in cc
-same_word w (text s) (number n) h k = tt
-same_word w (number m) (text t) h k = tt
-
-same_words : (ws : List (List ℕ)) (ps qs : List Word) → Matches ws ps → Matches ws qs → AllZip SameWord ps qs
-same_words [] [] [] h k = tt
-same_words [] [] (q ∷ qs) h k = absurd k
-same_words [] (p ∷ ps) qs h k = absurd h
-same_words (w ∷ ws) [] qs h k = absurd h
-same_words (w ∷ ws) (p ∷ ps) [] h k = absurd k
-same_words (w ∷ ws) (p ∷ ps) (q ∷ qs) h k = (same_word w p q h.0 k.0, same_words ws ps qs h.1 k.1)
+use Rattle.text_io.proofs.WordLaws.{SameWord, same_words}
 
 same_spots : (ps qs : List Spot) → AllZip SameWord (flat_map spot_words ps) (flat_map spot_words qs) → ps ≡ qs
 same_spots [] [] h = refl

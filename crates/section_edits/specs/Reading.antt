@@ -1,6 +1,5 @@
 -- What the words of an edit's line say, piece by piece.
-use Rattle.std.specs.Prelude.{ℕ, ℤ, ◌≡◌, List, [], ◌∷◌, map, pos, Some, Result, Ok, Err}
-use Rattle.std.specs.Borrow.{Bor}
+use Rattle.std.specs.Prelude.{ℕ, ℤ, ◌≡◌, List, [], ◌∷◌, length, pos, Some, Result, Ok, Err}
 use Rattle.std.specs.List.{flat_map, AllByRecursion}
 use Rattle.fku_types.specs.declared.points.Spot.{Spot}
 use Rattle.text_io.specs.Text.{number_of}
@@ -10,14 +9,6 @@ use Rattle.section_edits.specs.declared.edit.Edit.{Edit}
 use Rattle.section_edits.specs.declared.edit.EditFault.{EditFault}
 use Rattle.section_edits.specs.declared.edit.EditFault.TheVariants.{EditForm, NoMemory}
 use Rattle.section_edits.specs.Lines.{IsName, IsIndex, InRange, IsSpotInRange, ReadsAsEdit, IsNoEdit, spot_words}
-
--- the words of the code, as bytes
-abbrev pub texts : List (Bor (List ℕ)) → List (List ℕ)
-texts ws = map (λ (w : Bor (List ℕ)). w.now) ws
-
--- the word is not an integer from 0 to 2 ^ 32 - 1
-abbrev pub NoIndex : List ℕ → Type 0
-NoIndex word = (n : ℕ) → IsIndex n → number_of word ≡ Some (pos n) → ⊥
 
 -- the word is not an integer in the range of coordinates
 abbrev pub NoCoordinate : List ℕ → Type 0
@@ -53,5 +44,6 @@ NoSpot a b = (p : Spot) → IsSpotOf a b p → ⊥
 abbrev pub AreSpots : List (List ℕ) → List Spot → Type 0
 AreSpots ws ps = Matches ws (flat_map spot_words ps) × AllByRecursion IsSpotInRange ps
 
-abbrev pub NoSpots : List (List ℕ) → Type 0
-NoSpots ws = (ps : List Spot) → AreSpots ws ps → ⊥
+-- words that do not say so many places
+abbrev pub NoSpots : ℕ → List (List ℕ) → Type 0
+NoSpots count ws = (ps : List Spot) → length ps ≡ count → AreSpots ws ps → ⊥

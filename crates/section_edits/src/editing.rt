@@ -6,7 +6,6 @@ ghost use Rattle.fku_types.specs.declared.fault.Fault.TheVariants as faults;
 ghost use Rattle.section_core.specs.Flat.{AreFlat};
 ghost use Rattle.section_core.specs.Finished.{ended_parts};
 ghost use Rattle.section_core.specs.Laws.{IsSpot, section_vertices};
-ghost use Rattle.section_core.specs.Steps.{is_coordinate};
 ghost use Rattle.section_core.specs.Views.{spot_of, section_parts};
 ghost use Rattle.section_edits.specs.declared.edit.Edit.TheVariants.{AddContour, RemoveContour};
 ghost use Rattle.section_edits.specs.declared.edit.EditFault.TheVariants as edit_faults;
@@ -21,11 +20,9 @@ ghost use Rattle.section_edits.specs.Ready.{IsReadyParts};
 use crate::changes::{with_contour, with_spots, without_contour, without_links};
 use crate::contours::{contour_of, has_section};
 use crate::edit::{Edit, EditFault};
-use fku_types::limits::{
-    MAX_CONTOUR_VERTICES, MAX_CONTOURS, MAX_COORDINATE, MAX_SECTION_VERTICES, MAX_VERTICES,
-};
+use fku_types::limits::{MAX_CONTOUR_VERTICES, MAX_CONTOURS, MAX_SECTION_VERTICES, MAX_VERTICES};
 use fku_types::{Fault, LimitName, Name, NoMemory, Point, Spot};
-use section_core::{Contour, Link, Section, Sections};
+use section_core::{Contour, Link, Section, Sections, is_coordinate};
 use std::alloc::Global;
 
 fn is_short(contour: &Contour) -> bool
@@ -208,12 +205,6 @@ fn is_far(spot: &Spot) -> bool
     ensures { result ≡ is_far spot.now }
 {
     !(is_coordinate(spot.x) && is_coordinate(spot.y))
-}
-
-fn is_coordinate(value: i32) -> bool
-    ensures { result ≡ is_coordinate value }
-{
-    -(MAX_COORDINATE as i32) <= value && value <= MAX_COORDINATE as i32
 }
 
 fn spots_with(alloc: Global, points: &[Point], index: u32, to: &Spot) -> Result<Vec<Spot>, NoMemory>

@@ -41,6 +41,27 @@ pub fn copied(alloc: Global, places: &[u32]) -> Result<Vec<u32>, AllocError>
     places.iter().copied().collect(alloc)
 }
 
+/// A pair with its gap and the indices of its component's contours; or `NoMemory`.
+pub fn with_places(
+    alloc: Global,
+    pair: Pair,
+    gap: u32,
+    below: &[u32],
+    above: &[u32],
+) -> Result<GapPair, NoMemory>
+    ensures pair { IfOk result (λ p. p.pair ≡ pair) }
+    ensures gap { IfOk result (λ p. p.gap ≡ gap) }
+    ensures below { IfOk result (λ p. p.below.items ≡ below.now) }
+    ensures above { IfOk result (λ p. p.above.items ≡ above.now) }
+{
+    Ok(GapPair {
+        pair,
+        gap,
+        below: copied(alloc, below)?,
+        above: copied(alloc, above)?,
+    })
+}
+
 // The pair of a component, between the rings below its gap and those above.
 fn pair_between(
     alloc: Global,
@@ -68,12 +89,8 @@ fn pair_between(
 {
     let below = composite_at(alloc, low, &component.below, gap + 1)?;
     let above = composite_at(alloc, high, &component.above, gap + 2)?;
-    Ok(GapPair {
-        pair: Pair::make(below, above, cost),
-        gap,
-        below: copied(alloc, &component.below)?,
-        above: copied(alloc, &component.above)?,
-    })
+    let pair = Pair::make(below, above, cost);
+    Ok(with_places(alloc, pair, gap, &component.below, &component.above)?)
 }
 
 /// Appends a pair to the others; or `NoMemory`.

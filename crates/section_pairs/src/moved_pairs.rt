@@ -4,7 +4,7 @@ ghost use Rattle.strip_graph.specs.Strips.{IsStrip};
 ghost use Rattle.section_pairs.specs.Pairs.{pair_parts};
 ghost use Rattle.section_pairs.specs.Unchanged.{CanMove, CanMovePair, moved_id, moved_pair};
 
-use crate::gap_pairs::{GapPair, add_pair, copied};
+use crate::gap_pairs::{GapPair, add_pair, with_places};
 use fku_types::NoMemory;
 use plane_geom::Ring;
 use std::alloc::Global;
@@ -55,12 +55,8 @@ fn moved_pair(alloc: Global, pair: &GapPair, low: Shift, high: Shift) -> Result<
 {
     let lower = moved_ring(alloc, pair.pair.low(), low)?;
     let upper = moved_ring(alloc, pair.pair.high(), high)?;
-    Ok(GapPair {
-        pair: Pair::make(lower, upper, pair.pair.cost()),
-        gap: pair.gap,
-        below: copied(alloc, &pair.below)?,
-        above: copied(alloc, &pair.above)?,
-    })
+    let moved = Pair::make(lower, upper, pair.pair.cost());
+    with_places(alloc, moved, pair.gap, &pair.below, &pair.above)
 }
 
 /// The same pairs with the numbers that their vertices have now; or `NoMemory`.

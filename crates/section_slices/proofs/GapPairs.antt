@@ -1,13 +1,14 @@
 -- The pairs of a gap, and their loops, in order.
-use Rattle.std.proofs.Common.{◌≡◌, ℕ, ◌+◌, ◌<◌, ◌≤◌, ◌==◌, List, [], ◌∷◌, ◌++◌, length, get_or, take, drop, map, cond, sym, ap, ap₂, ◌∙◌, append_assoc, subst, Vec}
+use Rattle.std.proofs.Common.{◌≡◌, ◌≢◌, ℕ, ◌+◌, ◌<◌, ◌≤◌, ◌==◌, Bool, Bor, eq-eqb, List, [], ◌∷◌, ◌++◌, length, get_or, take, drop, map, cond, sym, ap, ap₂, ◌∙◌, append_assoc, subst, Vec}
 use Rattle.std.specs.declared.alloc.Global.{Global}
+use Rattle.std.proofs.lemmas.Bool.{ne_eqb}
 use Rattle.std.proofs.lemmas.List.{map-append, append-nil, drop_all}
 use Rattle.fku_types.proofs.ListLaws.{drop_next}
 use Rattle.strip_graph.specs.declared.slices.Cut.{Cut}
 use Rattle.strip_graph.specs.Strips.{Strip, rows}
 use Rattle.strip_graph.specs.Slices.{slice_loop}
 use Rattle.row_paths.specs.Solutions.{Solution, Solves}
-use Rattle.pair_pool.specs.Solvers.{SolvesEach}
+use Rattle.pair_pool.specs.Solvers.{SolvesEach, referents}
 use Rattle.section_pairs.specs.declared.gap_pairs.GapPair.{GapPair}
 use Rattle.section_pairs.specs.Pairs.{PairParts, pair_parts}
 use Rattle.surface_core.specs.Surfaces.{strips_in}
@@ -21,6 +22,25 @@ strips_so_far g ps i = strips_in (pairs_in_gap g (map pair_parts (take i ps)))
 pub strips_more : (g : ℕ) (ps : List GapPair) (i : ℕ) (p : GapPair) → i < length ps → p ≡ get_or ps i p
     → strips_so_far g ps (i + 1) ≡ strips_so_far g ps i ++ cond (p.gap == g) (p.pair ∷ []) []
 strips_more g ps i p l e = passed_more (λ (q : PairParts). q.gap == g) ps i p l e
+
+-- one more pair, which lies in the gap or does not
+pub strip_taken : (g : ℕ) (ps : List GapPair) (i : ℕ) (p : GapPair) (r : Bor Strip) (was now : List (Bor Strip))
+    → i < length ps → p ≡ get_or ps i p → p.gap ≡ g → r.now ≡ p.pair → now ≡ was ++ r ∷ []
+    → referents was ≡ strips_so_far g ps i → referents now ≡ strips_so_far g ps (i + 1)
+strip_taken g ps i p r was now l e here same more so =
+    ap referents more ∙ map-append (λ (b : Bor Strip). b.now) was (r ∷ [])
+    ∙ ap₂ (λ (xs : List Strip) (x : Strip). xs ++ x ∷ []) so same
+    ∙ sym (strips_more g ps i p l e
+    ∙ ap (λ (b : Bool). strips_so_far g ps i ++ cond b (p.pair ∷ []) []) (eq-eqb p.gap g here))
+
+pub strip_passed : (g : ℕ) (ps : List GapPair) (i : ℕ) (p : GapPair) (was now : List (Bor Strip)) → i < length ps
+    → p ≡ get_or ps i p → p.gap ≢ g → now ≡ was → referents was ≡ strips_so_far g ps i
+    → referents now ≡ strips_so_far g ps (i + 1)
+strip_passed g ps i p was now l e apart same so =
+    ap referents same ∙ so
+    ∙ sym (strips_more g ps i p l e
+    ∙ ap (λ (b : Bool). strips_so_far g ps i ++ cond b (p.pair ∷ []) []) (ne_eqb p.gap g apart)
+    ∙ append-nil (strips_so_far g ps i))
 
 -- the loops of the pairs from a place on
 loops_drop : (d t : ℕ) (ps : List Strip) (xs : List Solution) (i : ℕ) (p : Strip) (x : Solution) → i < length ps

@@ -1,3 +1,4 @@
+mod MapSteps
 pub mod LoopReads
 pub mod SliceHeights
 pub mod GapPairs

@@ -1,12 +1,13 @@
 -- Heights of sections rise, so each height has one place among them.
-use Rattle.std.proofs.Common.{◌≡◌, ◌⊎◌, inl, inr, ℕ, zero, suc, ◌+◌, ◌<◌, ◌≤◌, List, [], ◌∷◌, length, get_or, map, refl, sym, ap, ◌∙◌, arith, subst, ℤ, pos, ◌<ℤ◌, ◌≤ℤ◌, ◌-◌, ◌-ℤ◌, All, take, false, to_z, of_z, to_z-of_z, SFits, ap₂, nat_abs}
+use Rattle.std.proofs.Common.{◌≡◌, ◌⊎◌, inl, inr, ℕ, zero, suc, ◌+◌, ◌<◌, ◌≤◌, List, [], ◌∷◌, length, get_or, map, refl, sym, ap, ◌∙◌, arith, subst, ℤ, pos, ◌<ℤ◌, ◌≤ℤ◌, ◌-◌, ◌-ℤ◌, All, take, true, false, to_z, of_z, to_z-of_z, SFits, ap₂, nat_abs}
 use mir.Syntax.{w32}
 use lib.Signed.{le_z}
+use Rattle.fku_types.proofs.TruthLaws.{int_le_is}
 use Rattle.fku_types.specs.Points.{IsCoordinate}
 use Rattle.section_core.specs.ValidSections.{AreValidSections}
 use Rattle.std.specs.List.{AllByRecursion}
 use Rattle.std.proofs.lemmas.Int.{ints, by_lt_z}
-use Rattle.std.proofs.lemmas.List.{get_or-map, get_or-take, take_all, length-take-le, length-map}
+use Rattle.std.proofs.lemmas.List.{get_or_default, get_or-map, get_or-take, take_all, length-take-le, length-map}
 use Rattle.std.proofs.lemmas.List.Elements.{All-from_recursion, All-map, All-more}
 use Rattle.fku_types.specs.declared.fault.Fault.{Fault}
 use Rattle.section_core.specs.declared.parts.Section.{Section}
@@ -118,6 +119,17 @@ one_below ss z i s f c l h k =
     subst (λ (y : ℤ). (get_or ss i s).z <ℤ y) (sym (to_z-of_z f))
     (not_at_or_above (get_or ss i s).z z (fits (get_or ss i s).z (c i s l)) f h) in
     All-more Below ss i s l k here
+
+-- a section at the height or above it
+pub one_above : (ss : List Section) (z : ℤ) (i : ℕ) (s d : Section) → SFits w32 z
+    → All (λ (x : Section). IsCoordinate x.z) ss → i < length ss
+    → le_z (to_z w32 (of_z w32 z)) (to_z w32 (of_z w32 (get_or ss i s).z)) ≡ true → z ≤ℤ (get_or ss i d).z
+one_above ss z i s d f c l h =
+    let high : to_z w32 (of_z w32 z) ≤ℤ to_z w32 (of_z w32 (get_or ss i s).z) =
+    int_le_is (to_z w32 (of_z w32 z)) (to_z w32 (of_z w32 (get_or ss i s).z)) h in
+    subst (λ (x : Section). z ≤ℤ x.z) (get_or_default ss i s d l)
+    (subst (λ (y : ℤ). z ≤ℤ y) (to_z-of_z (fits (get_or ss i s).z (c i s l)))
+    (subst (λ (y : ℤ). y ≤ℤ to_z w32 (of_z w32 (get_or ss i s).z)) (to_z-of_z f) high))
 
 -- the test of equal heights
 pub equal : (z y : ℤ) → SFits w32 z → SFits w32 y → of_z w32 z ≡ of_z w32 y → y ≡ z

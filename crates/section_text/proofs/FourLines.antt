@@ -1,19 +1,20 @@
 -- If memory runs out, four kept lines are right.
-use Rattle.std.proofs.Common.{◌≡◌, ℕ, ◌≤◌, suc, zero, List, [], ◌∷◌, ◌++◌, map, length, take, drop, Result, Ok, Err, refl, ap, sym, ◌∙◌, subst, arith}
-use Rattle.std.specs.List.{AllZip, flat_map}
+use Rattle.std.proofs.Common.{◌≡◌, ℕ, ◌≤◌, List, [], ◌∷◌, ◌++◌, map, length, Result, Ok, Err, refl, ap, sym, ◌∙◌, subst, arith}
+use Rattle.std.specs.List.{flat_map}
 use Rattle.std.proofs.lemmas.List.{length-append, length-map}
 use Rattle.std.proofs.lemmas.Slice.Zip.{AllZip-long}
 use Rattle.text_io.specs.Text.{kept_lines}
 use Rattle.fku_types.specs.declared.fault.Fault.{Fault}
 use Rattle.fku_types.specs.declared.fault.Fault.TheVariants.{NoMemory}
-use Rattle.text_io.specs.WordLists.{Word, Matches, Line, Kept, lines_of}
+use Rattle.text_io.specs.WordLists.{Matches, Kept, lines_of}
 use Rattle.section_core.specs.declared.parts.Version.{Version}
 use Rattle.section_core.specs.declared.tally.Tally.{Tally}
 use Rattle.section_core.specs.Parts.{FileParts}
-use Rattle.section_core.specs.Laws.{Law, law_order}
+use Rattle.section_core.specs.Laws.{law_order}
 use Rattle.section_core.specs.Reading.{Begins, Breach}
 use Rattle.section_core.specs.Machine.{State, finish, object_items, item_line, at_version, at_cost, at_rule, no_object, in_object, ended}
 use Rattle.section_core.specs.Reader.{judge}
+use Rattle.text_io.proofs.FormatLaws.{begins_front}
 use Rattle.section_core.proofs.SoFar.{so_far, so_far-run}
 use Rattle.section_core.proofs.Decides.{lines_said, begins-of_state}
 use Rattle.section_text.specs.Fronts.{HasFourLines, IsReadMemory}
@@ -21,34 +22,7 @@ use Rattle.section_text.specs.States.{TakesLine, IsBehindHead, IsLineMemory}
 use Rattle.section_text.proofs.FrontLemmas.{Passed, pass_one, pass_longer}
 use Rattle.section_core.proofs.Walking.{not_memory}
 
--- the first of lines that match
-zip_take : (n : ℕ) (lines : List Line) (front : List (List Word)) → AllZip Matches lines front
-    → AllZip Matches (take n lines) (take n front)
-zip_take zero lines front m = tt
-zip_take (suc n) [] [] m = tt
-zip_take (suc n) (line ∷ lines) (ws ∷ front) m = (m.0, zip_take n lines front m.1)
-zip_take (suc n) [] (ws ∷ front) m = absurd m
-zip_take (suc n) (line ∷ lines) [] m = absurd m
-
-take_split : (n : ℕ) (front rest : List (List Word)) → front ++ rest ≡ take n front ++ (drop n front ++ rest)
-take_split zero front rest = refl
-take_split (suc n) [] rest = refl
-take_split (suc n) (ws ∷ front) rest = ap (λ (all : List (List Word)). ws ∷ all) (take_split n front rest)
-
--- the first of lines that begin well do
-begins_take : (w : Version) (laws : List Law) (n : ℕ) (lines : List Line) → Begins w laws lines
-    → Begins w laws (take n lines)
-begins_take w laws n lines b = record {
-  parts = b.parts;
-  is_file = b.is_file;
-  known = b.known;
-  keeps = b.keeps;
-  front = take n b.front;
-  rest = drop n b.front ++ b.rest;
-  split = b.split ∙ take_split n b.front b.rest;
-  match = zip_take n lines b.front b.match;
-}
-
+-- the first four of lines that begin well do
 pub four_of : (w : Version) (front rest : List Kept) → 4 ≤ length front → Begins w law_order (lines_of front)
     → HasFourLines w (front ++ rest)
 four_of w [] rest n b = absurd (omega arith)
@@ -56,7 +30,7 @@ four_of w (h ∷ []) rest n b = absurd (omega arith)
 four_of w (h ∷ i ∷ []) rest n b = absurd (omega arith)
 four_of w (h ∷ i ∷ j ∷ []) rest n b = absurd (omega arith)
 four_of w (h ∷ i ∷ j ∷ k ∷ front) rest n b =
-    (omega arith, begins_take w law_order 4 (lines_of (h ∷ i ∷ j ∷ k ∷ front)) b)
+    (omega arith, begins_front (lines_of (h ∷ i ∷ j ∷ k ∷ [])) (lines_of front) b)
 
 -- lines that are passed have no fault
 passed_four : (w : Version) (kept rest : List Kept) (state : State) (p : Passed w kept rest state) → 4 ≤ length p.before

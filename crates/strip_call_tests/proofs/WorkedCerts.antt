@@ -7,7 +7,8 @@ use Rattle.text_io.specs.WordLists.{Kept}
 use Rattle.strip_graph.specs.declared.tilings.Step.TheVariants.{V, H}
 use Rattle.strip_graph.proofs.ComputedTests.{list_at}
 use Rattle.cert_checker.specs.CertTexts.{CertHead, IsHead, IsWord, certificate_parts}
-use Rattle.cert_checker.specs.CertReading.{kept_behind, last_line, IsCertificateFault}
+use Rattle.text_io.specs.Formats.{kept_behind, last_line}
+use Rattle.cert_checker.specs.CertReading.{IsCertificateFault}
 use Rattle.cert_checker.proofs.Fronts.{begins_none}
 use Rattle.cert_checker.proofs.NextLines.{short_none}
 use Rattle.pair_pool.specs.Solvers.{Solver}

@@ -15,8 +15,6 @@ mod composite_tests;
 #[cfg(test)]
 mod landmark_tests;
 #[cfg(test)]
-mod mesh_tests;
-#[cfg(test)]
 mod pair_tests;
 #[cfg(test)]
 mod pool_tests;
@@ -26,3 +24,5 @@ mod potential_tests;
 mod rings;
 #[cfg(test)]
 mod thread_tests;
+#[cfg(test)]
+mod tile_tests;

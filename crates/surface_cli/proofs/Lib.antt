@@ -2,7 +2,6 @@ pub mod RunLemmas
 mod HeadlineLemmas
 mod VerdictLines
 mod Worked
-mod WorkedListings
 mod WorkedWords
 mod ArgumentLemmas
 mod GivenLemmas

@@ -7,4 +7,3 @@ mod CountLemmas
 mod DensifyLemmas
 pub mod EditLemmas
 mod Worked
-mod WorkedMeshes

@@ -112,12 +112,3 @@ texts_more v z items cuts i o cut old new same l e k was now =
     ∙ sym (text_more v z (map object_parts os) (take i cuts) (object_parts o) cut count)
     ∙ ap₂ (λ (ps : List ObjectParts) (cs : List (Option SliceLoops)). cuts_text v z ps cs) (sym parts)
     (sym (take_next cuts i cut m k))
-
-pub texts_whole : (v : Version) (z : ℤ) (items : List Object) (objects : List ObjectParts)
-    (cuts : List (Option SliceLoops)) (i : ℕ) (text : List ℕ) → map object_parts items ≡ objects
-    → length items ≡ length cuts → length items ≤ i
-    → text ≡ cuts_text v z (map object_parts (take i items)) (take i cuts) → text ≡ cuts_text v z objects cuts
-texts_whole v z items objects cuts i text parts same l is =
-    is ∙ ap₂ (λ (os : List Object) (cs : List (Option SliceLoops)). cuts_text v z (map object_parts os) cs)
-    (take_all i items l) (take_all i cuts (omega (arith, same, l)))
-    ∙ ap (λ (os : List ObjectParts). cuts_text v z os cuts) parts

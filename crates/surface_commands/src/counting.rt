@@ -6,10 +6,10 @@ ghost use Rattle.surface_commands.specs.Count.{count, has_text, yes_or_no};
 ghost use Rattle.surface_commands.specs.MeshTexts.{parts_line};
 
 use byu_text::{ByuCounts, counts, read_byu};
-use command_replies::{put, put_count};
 use fku_types::limits::MAX_MESH_BYTES;
 use fku_types::{Fault, NoMemory};
 use std::alloc::{AllocError, Global};
+use text_io::{put, put_count};
 
 /// Appends the line with the number of a mesh's parts to a text.
 pub(crate) fn put_parts(out: &mut Vec<u8>, parts: usize) -> Result<(), AllocError>

@@ -7,11 +7,11 @@ ghost use Rattle.surface_commands.specs.Crossings.{cross_line, cross_lines, cros
 
 use crate::counting::put_parts;
 use byu_text::read_byu;
-use command_replies::{put, put_count};
 use fku_types::limits::{MAX_MESH_BYTES, MAX_MESH_TRIANGLES};
 use fku_types::{Fault, NoMemory};
 use mesh_measures::{CrossingCounts, crossings};
 use std::alloc::{AllocError, Global};
+use text_io::{put, put_count};
 use triangle_meshes::Mesh;
 
 fn put_cross(out: &mut Vec<u8>, polygon: usize, count: u32) -> Result<(), AllocError>

@@ -13,7 +13,7 @@ ghost use Rattle.surface_commands.specs.Edit.{answer_text, answer_words, edit, e
 ghost use Rattle.surface_commands.specs.EditSteps.{IsApplied, IsTextOfEdits, HasAnswered, HasEdited};
 
 use crate::writing::SurfaceWriter;
-use command_replies::{only_sections, put, put_count};
+use command_replies::only_sections;
 use fku_types::limits::{MAX_CHECK_BYTES, MAX_EDITS};
 use fku_types::{Fault, LimitName, NoMemory};
 use pair_pool::PairSolver;
@@ -21,7 +21,7 @@ use section_core::Sections;
 use section_edits::{Done, EditFault, Session, edit_fault_line, read_edit};
 use section_text::parse_objects;
 use std::alloc::{AllocError, Global};
-use text_io::kept_line_at;
+use text_io::{kept_line_at, put, put_count};
 use triangle_meshes::Mesh;
 
 // The place where a tail begins: the byte, and the number of the line before it.

@@ -8,11 +8,11 @@ ghost use Rattle.surface_commands.specs.Measure.{AreMeasures, area_text, box_tex
 
 use crate::counting::put_parts;
 use byu_text::read_byu;
-use command_replies::put;
 use fku_types::limits::{MAX_MESH_BYTES, MAX_MESH_PARTS};
 use fku_types::{Fault, NoMemory, Point};
 use mesh_measures::{Area, Bounds, Measures, Sides, Solid, measure};
 use std::alloc::{AllocError, Global};
+use text_io::put;
 use triangle_meshes::Mesh;
 
 fn head_text(

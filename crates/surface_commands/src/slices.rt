@@ -12,7 +12,7 @@ ghost use Rattle.command_replies.specs.Stages.{on_objects};
 ghost use Rattle.surface_commands.specs.Slice.{IsHeightFaultOfAll, cut_text, cuts_text, loop_text, height_text, object_cut, slice, slice_text};
 ghost use Rattle.surface_commands.specs.SliceSteps.{FitsHeight, is_outside};
 
-use command_replies::{objects_in, put, put_count, put_number, put_object};
+use command_replies::{objects_in, put_object};
 use fku_types::Fault;
 use fku_types::limits::MAX_CHECK_BYTES;
 use pair_pool::PairSolver;
@@ -21,6 +21,7 @@ use section_slices::{SliceLoops, slice_all, test_height};
 use std::alloc::{AllocError, Global};
 use strip_graph::Cut;
 use surface_core::pairs_all;
+use text_io::{put, put_count, put_number};
 
 fn put_cut(out: &mut Vec<u8>, cut: Cut) -> Result<(), AllocError>
     ensures { OnOk result (out.new.items ≡ out.old.items ++ cut_text cut) }

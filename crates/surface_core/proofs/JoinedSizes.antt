@@ -308,3 +308,14 @@ pub cost_added : (objects : List Parts) (each rest more : List Built) (b : Built
 cost_added objects each rest more b n s few all e h cheap some low =
     let own = (subst (AllByRecursion IsCheap) e cheap).0 in
     cost_more s b.cost n b.pairs (few_added objects each rest more b n few all e h) some low own.0 own.1
+
+-- where nothing is left, what was summed is the whole sum
+pub sum_ended : (f : Built → ℕ) (rest : List Built) (n s t : ℕ) → n ≡ length rest → n ≡ 0 → s + sum_by f rest ≡ t
+    → s ≡ t
+sum_ended f [] n s t e z h = omega (arith, h)
+sum_ended f (b ∷ rest) n s t e z h = absurd (omega (arith, e, z))
+
+pub cost_ended : (f : Built → ℤ) (rest : List Built) (n : ℕ) (s t : ℤ) → n ≡ length rest → n ≡ 0
+    → s +ℤ signed_sum f rest ≡ t → s ≡ t
+cost_ended f [] n s t e z h = omega (arith, ints, h)
+cost_ended f (b ∷ rest) n s t e z h = absurd (omega (arith, e, z))

@@ -1,3 +1,4 @@
+mod ListSteps
 pub mod PassedStrips
 pub mod JoinedPlaces
 pub mod PlaceSums

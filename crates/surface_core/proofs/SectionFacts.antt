@@ -135,7 +135,7 @@ each_view first contours (k ∷ ks) h l = (
   each_view first contours ks h l.1,
 )
 
-oriented_views : (first : ℕ) (contours : List (List Point)) → All (λ points. 3 ≤ length points) contours
+pub oriented_views : (first : ℕ) (contours : List (List Point)) → All (λ points. 3 ≤ length points) contours
     → AllByRecursion IsRingView (oriented first contours)
 unfolding oriented
 oriented_views first contours h = each_view first contours (range_with_len 0 (length contours)) h

@@ -1,4 +1,4 @@
-//! What tests of texts compare.
+//! The comparison of two values in a test.
 use std::fmt::Debug;
 use std::process::Abort;
 

@@ -1,5 +1,5 @@
 //! Triangles of a part that cross.
-use crate::measure_comparisons::same;
+use crate::answers::same;
 use fku_types::Point;
 use mesh_measures::{Corners, cross, crossings};
 use std::test::Fail;

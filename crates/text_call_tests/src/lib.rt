@@ -1,5 +1,5 @@
-//! Only tests: section texts that are read, made and printed, texts of meshes that are read and counted, and the measures
-//! and crossings of a part.
+//! Only tests: section texts that are read, made and printed, texts of meshes that are read and counted, the edges and
+//! volumes of meshes, and the measures and crossings of a part.
 #![tactic(auto)]
 
 #[cfg(test)]
@@ -11,11 +11,11 @@ mod crossing_tests;
 #[cfg(test)]
 mod demo_tests;
 #[cfg(test)]
+mod edge_tests;
+#[cfg(test)]
 mod line_tests;
 #[cfg(test)]
 mod make_tests;
-#[cfg(test)]
-mod measure_comparisons;
 #[cfg(test)]
 mod measure_tests;
 #[cfg(test)]
@@ -24,3 +24,7 @@ mod mesh_text_tests;
 mod outside_tests;
 #[cfg(test)]
 mod parse_tests;
+#[cfg(test)]
+mod solids;
+#[cfg(test)]
+mod volume_tests;

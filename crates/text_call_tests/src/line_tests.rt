@@ -3,7 +3,8 @@ use crate::answers::same;
 use fku_types::{Fault, LinkCause, Name, fault_line};
 use std::test::Fail;
 use text_io::{
-    KeptLine, LineSpan, Number, WordSpan, kept_line_at, line_at, line_count, read_number, word_at,
+    KeptLine, LineSpan, Number, after_keyword, kept_line_at, line_at, line_count, read_number,
+    split_count, split_word,
 };
 
 #[test]
@@ -21,8 +22,12 @@ fn a_line_ends_after_its_line_feed(rt: HostRuntime) {
 #[test]
 fn words_stand_between_blanks(rt: HostRuntime) {
     let line = b"\t 12  ab ";
-    same(&rt, word_at(line, 4), Some(WordSpan { first: 6, end: 8 }));
-    same(&rt, word_at(line, 8), None);
+    same(&rt, split_word(line), Some((b"12", b"  ab ")));
+    same(&rt, split_word(b" \t"), None);
+    same(&rt, after_keyword(line, b"12"), Some(b"  ab "));
+    same(&rt, after_keyword(line, b"ab"), None);
+    same(&rt, split_count(line, 12, 12), Some((12, b"  ab ")));
+    same(&rt, split_count(line, 0, 11), None);
 }
 
 #[test]

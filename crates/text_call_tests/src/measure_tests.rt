@@ -1,71 +1,15 @@
 //! Measures of small parts.
-use crate::measure_comparisons::same;
+use crate::answers::same;
+use crate::solids::{CORNERS, CUBE, FAR_CORNERS, FAR_TETRAHEDRON};
 use fku_types::Point;
 use mesh_measures::{Area, Bounds, Measures, Sides, Solid, measure};
 use std::test::Fail;
-
-// A cube of side 10.
-const CORNERS: [Point; 8] = [
-    Point { x: 0, y: 0, z: 0 },
-    Point { x: 10, y: 0, z: 0 },
-    Point { x: 10, y: 10, z: 0 },
-    Point { x: 0, y: 10, z: 0 },
-    Point { x: 0, y: 0, z: 10 },
-    Point { x: 10, y: 0, z: 10 },
-    Point {
-        x: 10,
-        y: 10,
-        z: 10,
-    },
-    Point { x: 0, y: 10, z: 10 },
-];
-
-const CUBE: [[u32; 3]; 12] = [
-    [3, 1, 0],
-    [1, 3, 2],
-    [0, 1, 4],
-    [5, 4, 1],
-    [1, 2, 5],
-    [6, 5, 2],
-    [2, 3, 6],
-    [7, 6, 3],
-    [3, 0, 7],
-    [4, 7, 0],
-    [7, 4, 5],
-    [5, 6, 7],
-];
 
 // Three triangles at one edge, one of which has it in the other direction.
 const FAN: [[u32; 3]; 3] = [[0, 1, 2], [0, 1, 3], [1, 0, 4]];
 
 // An edge in both directions.
 const TO_AND_FRO: [[u32; 3]; 1] = [[0, 1, 0]];
-
-// Four corners of the largest cube, no two of them at one edge.
-const FAR_CORNERS: [Point; 4] = [
-    Point {
-        x: 999999,
-        y: 999999,
-        z: 999999,
-    },
-    Point {
-        x: -999999,
-        y: -999999,
-        z: 999999,
-    },
-    Point {
-        x: -999999,
-        y: 999999,
-        z: -999999,
-    },
-    Point {
-        x: 999999,
-        y: -999999,
-        z: -999999,
-    },
-];
-
-const FAR_TETRAHEDRON: [[u32; 3]; 4] = [[0, 2, 1], [0, 1, 3], [0, 3, 2], [1, 2, 3]];
 
 fn at(x: i32, y: i32, z: i32) -> Point {
     Point { x, y, z }

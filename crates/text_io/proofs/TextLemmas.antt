@@ -1,14 +1,14 @@
 -- How the first line of a text and the first word of a line are found.
 use Rattle.std.proofs.Common.{◌≡◌, ℕ, ◌+◌, ◌-◌, ◌<◌, ◌≤◌, min, Bool, true, false, not, List, [], ◌∷◌, ◌++◌, map, length, take, drop, get_or, slice_range, eqb, Bor, suc, MatchOption, refl, ap, sym, ◌∙◌, subst, inl, inr, arith, Option, None, Some, length-take, length-drop}
 use Rattle.std.specs.Prelude.{unwrap_or, position}
-use Rattle.std.specs.List.{before_first, after_first, position_or_len, AllPass, AllByRecursion}
+use Rattle.std.specs.List.{before_first, after_first, position_or_len, AllByRecursion}
 use Rattle.std.specs.Cmp.Lexicographic.{pointwise}
 use Rattle.std.proofs.lemmas.Grind.{common_steps}
 use Rattle.std.proofs.lemmas.Bool.Decides.{nat_tests}
 use Rattle.std.proofs.lemmas.Bool.{false≢true, cases_Bool, cond-true, cond-false}
-use Rattle.std.proofs.lemmas.List.{drop_all, drop-drop, drop_more, get_or-take, drop_min, take-take}
-use Rattle.std.proofs.lemmas.List.Sums.{prefix_len-le-length, prefix_len_passes, prefix_len_stops}
-use Rattle.text_io.specs.Text.{is_feed, is_blank, fed_lines, onto_first, lines, first_line, after_line, without_return, words, word_ends, is_kept, IsLineAt, IsWordAt}
+use Rattle.std.proofs.lemmas.List.{drop_all, drop-drop, drop_more, drop_min, take-take}
+use Rattle.std.proofs.lemmas.List.Sums.{prefix_len-le-length, prefix_len_stops}
+use Rattle.text_io.specs.Text.{is_feed, is_blank, fed_lines, onto_first, lines, first_line, after_line, without_return, words, word_ends, is_kept, IsLineAt}
 
 -- `position(..).unwrap_or(len)`
 pub position_default : (p : ℕ → Bool) (xs : List ℕ) → unwrap_or (position p xs) (length xs) ≡ position_or_len p xs
@@ -156,19 +156,6 @@ not_not-false : (b : Bool) → not (not b) ≡ false → b ≡ false
 not_not-false true h = absurd (false≢true (sym h))
 not_not-false false h = refl
 
--- a part has only blanks exactly where no word begins in it
-pub only_blanks : (xs : List ℕ) → position (λ b. not (is_blank b)) xs ≡ None → AllPass is_blank xs
-only_blanks xs h k d inside =
-    let all = position_none (λ b. not (is_blank b)) xs h in
-    not_not _ (prefix_len_passes (λ b. not (not (is_blank b))) xs k d (omega arith))
-
-pub not_only_blanks : (xs : List ℕ) (n : ℕ) → position (λ b. not (is_blank b)) xs ≡ Some n → AllPass is_blank xs → ⊥
-not_only_blanks xs n h all =
-    let found = position_some (λ b. not (is_blank b)) xs n h in
-    let here : is_blank (get_or xs (position_or_len (λ b. not (is_blank b)) xs) 0) ≡ false =
-    not_not-false _ (prefix_len_stops (λ b. not (not (is_blank b))) xs 0 (omega arith)) in
-    false≢true (sym here ∙ all _ 0 (omega arith))
-
 words-blank : (b : ℕ) (bs : List ℕ) → is_blank b ≡ true → words (b ∷ bs) ≡ words bs
 words-blank b bs e = cond-true _ _ _ e
 
@@ -224,54 +211,29 @@ word_read (b ∷ []) rest l s e = words-last b rest s.0 e
 word_read (b ∷ d ∷ w) rest l s e = words-more b (d ∷ w ++ rest) s.0 s.1.0
     ∙ ap (onto_first b) (word_read (d ∷ w) rest (omega arith) s.1 e)
 
--- bytes before the first that passes do not pass
-blanks_before : (xs : List ℕ) (n : ℕ) → n ≡ position_or_len (λ b. not (is_blank b)) xs → n ≤ length xs
-    → AllPass is_blank (take n xs)
-blanks_before xs n n-is short k d inside =
-    let k-lt : k < n = omega (arith, length-take n xs) in
-    subst (λ (b : ℕ). is_blank b ≡ true) (sym (get_or-take n xs k d k-lt))
-    (not_not _ (prefix_len_passes (λ b. not (not (is_blank b))) xs k d (omega arith)))
-
--- a word at the front of a nonempty part that does not begin with a blank
-word_at_front : (r : List ℕ) (b : ℕ) (bs : List ℕ) (m : ℕ) → r ≡ b ∷ bs → is_blank b ≡ false
-    → m ≡ position_or_len is_blank r → (0 < m) × (words r ≡ take m r ∷ words (drop m r))
-word_at_front r b bs m r-is e m-is =
-    let w : words r ≡ before_first is_blank r ∷ words (drop (position_or_len is_blank r) r) =
-    subst (λ (x : List ℕ). words x ≡ before_first is_blank x ∷ words (drop (position_or_len is_blank x) x)) (sym r-is)
-    (words_first b bs e) in
-    let first : position_or_len is_blank (b ∷ bs) ≡ 1 + position_or_len is_blank bs = cond-true _ _ _ (ap not e) in
-    let long : position_or_len is_blank r ≡ 1 + position_or_len is_blank bs = ap (position_or_len is_blank) r-is
-    ∙ first in
-    (omega arith, subst (λ (k : ℕ). words r ≡ take k r ∷ words (drop k r)) (sym m-is) w)
-
-pub word_found : (line : List ℕ) (at n m : ℕ) → at ≤ length line
-    → position (λ b. not (is_blank b)) (drop at line) ≡ Some n → m ≡ position_or_len is_blank (drop n (drop at line))
-    → IsWordAt line at (at + n) (at + n + m)
-word_found line at n m inside begins m-is =
-    let rest = drop at line in
-    let found = position_some (λ b. not (is_blank b)) rest n begins in
-    let rest-length : length rest ≡ length line - at = length-drop at line in
-    let first-stops : is_blank (get_or rest (position_or_len (λ b. not (is_blank b)) rest) 0) ≡ false =
-    not_not-false _ (prefix_len_stops (λ b. not (not (is_blank b))) rest 0 (omega arith)) in
-    let here : is_blank (get_or rest n 0) ≡ false =
-    subst (λ (k : ℕ). is_blank (get_or rest k 0) ≡ false) (sym found.0) first-stops in
-    let front = word_at_front (drop n rest) (get_or rest n 0) (drop (n + 1) rest) m (drop_more rest n 0 found.1) here
-    m-is in
-    let m-le : m ≤ length (drop n rest) = omega (arith, prefix_len-le-length (λ x. not (is_blank x)) (drop n rest)) in
-    let left : length (drop n rest) ≡ length rest - n = length-drop n rest in
-    let word-is : slice_range line (at + n) (at + n + m) ≡ take m (drop n rest) = slice-range-length line (at + n) m
-    ∙ ap (take m) (sym (drop-drop n at line)) in
-    let after-is : drop (at + n + m) line ≡ drop m (drop n rest) = sym (drop-drop m (at + n) line)
-    ∙ ap (drop m) (sym (drop-drop n at line)) in
-    let skipped : words rest ≡ words (drop n rest) = words_skip rest
-    ∙ ap (λ (k : ℕ). words (drop k rest)) (sym found.0) in
-    record {
-      in_order = (omega arith, omega arith, omega arith);
-      blanks_before = subst (AllPass is_blank) (sym (slice-range-length line at n))
-          (blanks_before rest n found.0 (omega arith));
-      words = skipped ∙ front.1 ∙ ap (λ (w : List ℕ). w ∷ words (drop m (drop n rest))) (sym word-is)
-          ∙ ap (λ (r : List ℕ). slice_range line (at + n) (at + n + m) ∷ words r) (sym after-is);
-    }
+-- the first word of a line, and what follows it
+pub word_split : (line rest word after : List ℕ) (n m : ℕ) → position (λ b. not (is_blank b)) line ≡ Some n
+    → rest ≡ drop n line → m ≡ position_or_len is_blank rest → word ≡ take m rest → after ≡ drop m rest
+    → words line ≡ word ∷ words after
+word_split line rest word after n m begins r m-is w a =
+    let found = position_some (λ b. not (is_blank b)) line n begins in
+    let b = get_or line n 0 in
+    let bs = drop (n + 1) line in
+    let here : is_blank b ≡ false =
+    subst (λ (k : ℕ). is_blank (get_or line k 0) ≡ false) (sym found.0)
+    (not_not-false _ (prefix_len_stops (λ b. not (not (is_blank b))) line 0 (omega arith))) in
+    let whole : rest ≡ b ∷ bs = r ∙ drop_more line n 0 found.1 in
+    let one : words rest ≡ take m rest ∷ words (drop m rest) =
+    subst (λ (k : ℕ). words rest ≡ take k rest ∷ words (drop k rest)) (sym m-is)
+    (subst (λ (x : List ℕ).
+    words x ≡ take (position_or_len is_blank x) x ∷ words (drop (position_or_len is_blank x) x)) (sym whole)
+    (words_first b bs here)) in
+    words_skip line
+    ∙ ap (λ (k : ℕ). words (drop k line)) (sym found.0)
+    ∙ ap words (sym r)
+    ∙ one
+    ∙ ap (λ (x : List ℕ). x ∷ words (drop m rest)) (sym w)
+    ∙ ap (λ (x : List ℕ). word ∷ words x) (sym a)
 
 -- where no word begins there are no words
 pub no_words : (xs : List ℕ) → position (λ b. not (is_blank b)) xs ≡ None → words xs ≡ []

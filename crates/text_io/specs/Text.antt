@@ -1,6 +1,6 @@
 -- Lines, words and integers of a text, as bytes.
 use Rattle.std.specs.Prelude.{ℕ, ◌+◌, ◌*◌, ◌-◌, ◌≡◌, ◌<◌, ◌≤◌, drop, slice_range, nat_abs, Bool, true, false, not, ◌&&◌, ◌||◌, List, [], ◌∷◌, map, length, ℤ, pos, neg_ℤ, Option, None, Some, if◌then◌else◌, ◌==◌, nat_le}
-use Rattle.std.specs.List.{list_all, before_first, after_first, AllPass}
+use Rattle.std.specs.List.{list_all, before_first, after_first}
 use Rattle.std.specs.Option.{option_map}
 use Rattle.fku_types.specs.declared.limits.TheConstants.{MAX_NUMBER}
 use Rattle.text_io.specs.declared.text.Number.{Number}
@@ -106,12 +106,6 @@ pub record IsLineAt (text : List ℕ) (at first end next : ℕ) : Type 0 where
   pub line : slice_range text first end ≡ first_line (drop at text)
   pub rest : drop next text ≡ after_line (drop at text)
   pub lines : lines (drop at text) ≡ slice_range text first end ∷ lines (drop next text)
-
--- The first word of a line, from a byte on, goes from first to before end.
-pub record IsWordAt (line : List ℕ) (at first end : ℕ) : Type 0 where
-  pub in_order : (at ≤ first) × (first < end) × (end ≤ length line)
-  pub blanks_before : AllPass is_blank (slice_range line at first)
-  pub words : words (drop at line) ≡ slice_range line first end ∷ words (drop end line)
 
 -- What a reader of an integer returns: its value, or far where it is too large in absolute value.
 abbrev pub Reads : Option ℤ → Option Number → Type 0

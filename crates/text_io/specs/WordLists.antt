@@ -1,5 +1,5 @@
 -- Lines as lists of words: which lines of a text match them, and how they are written.
-use Rattle.std.specs.Prelude.{ℕ, ◌≡◌, ◌<◌, ◌≤◌, ◌^◌, List, [], ◌∷◌, ◌++◌, map, length, ℤ, unsigned_abs, Option, None, Some}
+use Rattle.std.specs.Prelude.{ℕ, ◌≡◌, ◌<◌, ◌≤◌, ◌^◌, List, [], ◌∷◌, ◌++◌, map, length, ℤ, pos, unsigned_abs, Option, None, Some}
 use Rattle.std.specs.List.{AllZip, AllByRecursion}
 use Rattle.std.specs.Fmt.{signed_decimal}
 use Rattle.text_io.specs.Text.{number_of}
@@ -57,3 +57,13 @@ IsWritable (number z) = unsigned_abs z < 10 ^ 64
 -- a line of one or more such words
 abbrev pub IsWritableLine : List Word → Type 0
 IsWritableLine ws = (0 < length ws) × AllByRecursion IsWritable ws
+
+-- the word says this integer, which is in its range
+abbrev pub IsCount : List ℕ → ℕ → ℕ → ℕ → Type 0
+IsCount word least most n = (number_of word ≡ Some (pos n)) × (least ≤ n) × (n ≤ most)
+
+-- the first of some words says this integer, which is in its range, and these are the words after it
+pub record IsFirstCount (ws : Line) (least most n : ℕ) (more : Line) : Type 0 where
+  pub word : List ℕ
+  pub words : ws ≡ word ∷ more
+  pub says : IsCount word least most n

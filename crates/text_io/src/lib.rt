@@ -7,6 +7,8 @@ mod memory;
 mod outside;
 mod std_outside;
 mod text;
+mod words;
+mod writing;
 
 pub use fku_types::{
     CostRule, Fault, LimitName, LinkCause, Name, NoMemory, PairRule, Point, Spot, Steps, fault_line,
@@ -16,4 +18,6 @@ pub use laws::written_lines_are_read;
 pub use memory::{MemSink, MemSource, SureSink, SureSource};
 pub use outside::{Gave, InFault, OutFault, Sink, Source, Took, put_all, read_all};
 pub use std_outside::{StdSink, StdSource};
-pub use text::{LineSpan, Number, WordSpan, is_digit, line_at, read_number, word_at};
+pub use text::{LineSpan, Number, is_digit, line_at, read_number};
+pub use words::{after_keyword, is_word, read_count, split_count, split_word};
+pub use writing::{put, put_count, put_long, put_number};

@@ -1,7 +1,7 @@
 //! Lines, words and integers.
-ghost use Rattle.std.specs.Prelude.{◌≡◌, ◌≤◌, ◌↔◌, drop, length, not, true, Some, None, IfSome, IfNone, IsNone, [], if◌then◌else◌, nat_le};
-ghost use Rattle.std.specs.List.{AllPass, list_all, position};
-ghost use Rattle.text_io.specs.Text.{IsLineAt, IsWordAt, is_blank, is_feed, words, without_return, is_digit, are_digits, digits_of, signed, number_of, value_after, Reads};
+ghost use Rattle.std.specs.Prelude.{◌≡◌, ◌≤◌, ◌↔◌, drop, length, not, true, Some, None, IfSome, IsNone, [], if◌then◌else◌, nat_le};
+ghost use Rattle.std.specs.List.{list_all, position};
+ghost use Rattle.text_io.specs.Text.{IsLineAt, is_blank, is_feed, without_return, is_digit, are_digits, digits_of, signed, number_of, value_after, Reads};
 ghost use Rattle.std.specs.Option.{option_map};
 ghost use Rattle.text_io.specs.declared.text.Number.TheVariants.{Value};
 
@@ -13,13 +13,6 @@ pub struct LineSpan {
     pub first: usize,
     pub end: usize,
     pub next: usize,
-}
-
-/// Where a word lies in its line: its bytes go from `first` to before `end`.
-#[derive(Clone, Copy, Debug, PartialEq, Eq)]
-pub struct WordSpan {
-    pub first: usize,
-    pub end: usize,
 }
 
 /// The line that begins at a byte, without its line feed and the carriage return before it; none at the end of the
@@ -60,26 +53,6 @@ fn is_blank(b: u8) -> bool
     b == b' ' || b == b'\t'
 }
 
-/// The first word of a line from a byte on; none where only blanks follow.
-pub fn word_at(line: &[u8], at: usize) -> Option<WordSpan>
-    requires { at ≤ length line.now }
-    ensures none { IsNone result ↔ AllPass is_blank (drop at line.now) }
-    ensures over { IfNone result (words (drop at line.now) ≡ []) }
-    ensures found { IfSome result (λ w. IsWordAt line.now at w.first w.end) }
-{
-    let (_, part) = line.split_at(at);
-    let Some(skipped) = word_in(part) else {
-        return None;
-    };
-    let (_, rest) = part.split_at(skipped);
-    let first = at + skipped;
-    let length = blank_in(rest).unwrap_or(rest.len());
-    Some(WordSpan {
-        first,
-        end: first + length,
-    })
-}
-
 // Where the first word of a line begins.
 pub(crate) fn word_in(line: &[u8]) -> Option<usize>
     ensures { result ≡ position (λ b. not (is_blank b)) line.now }
@@ -87,7 +60,8 @@ pub(crate) fn word_in(line: &[u8]) -> Option<usize>
     line.iter().position(|b| !is_blank(*b))
 }
 
-fn blank_in(line: &[u8]) -> Option<usize>
+// Where the first blank of a line lies.
+pub(crate) fn blank_in(line: &[u8]) -> Option<usize>
     ensures { result ≡ position is_blank line.now }
 {
     line.iter().position(|b| is_blank(*b))

@@ -4,7 +4,8 @@ use Rattle.fku_types.specs.declared.fault.Fault.{Fault}
 use Rattle.fku_types.specs.declared.fault.Fault.TheVariants.{NoMemory}
 use Rattle.cert_checker.specs.declared.certs.CertText.{CertText}
 use Rattle.cert_checker.specs.CertTexts.{CertParts, certificate_parts}
-use Rattle.cert_checker.specs.CertReading.{kept_behind, ReadsAsCertificate, ReadsBackCertificate}
+use Rattle.text_io.specs.Formats.{kept_behind}
+use Rattle.cert_checker.specs.CertReading.{ReadsAsCertificate, ReadsBackCertificate}
 use Rattle.cert_checker.proofs.laws.read_back.Goals as goal
 
 back : (C : CertParts) (r : Result CertText Fault) → ReadsBackCertificate C r → IfOk r (λ t. certificate_parts t ≡ C)

@@ -5,22 +5,24 @@ use Rattle.fku_types.specs.declared.fault.Fault.{Fault}
 use Rattle.fku_types.specs.declared.fault.Fault.TheVariants.{CertForm}
 use Rattle.cert_checker.specs.declared.certs.CertText.{CertText}
 use Rattle.cert_checker.specs.CertTexts.{CertParts, certificate_parts}
-use Rattle.cert_checker.specs.CertReading.{kept_behind, last_line, ReadsAsCertificate, HasCertificateFault, IsCertificateFault, ReadsBackCertificate, TellsCertificateFault}
-use Rattle.cert_checker.proofs.TextLaws.{reads_one, one_fault, no_fault}
+use Rattle.text_io.specs.Formats.{kept_behind, last_line}
+use Rattle.cert_checker.specs.CertReading.{ReadsAsCertificate, HasCertificateFault, IsCertificateFault, ReadsBackCertificate, TellsCertificateFault}
+use Rattle.text_io.proofs.FormatLaws.{one_line_fault, no_line_fault}
+use Rattle.cert_checker.proofs.TextLaws.{reads_one}
 use Rattle.cert_checker.proofs.parsing.parse_cert.Goals as goal
 
 given : (kept : List Kept) (last : ℕ) (C : CertParts) (r : Result CertText Fault)
     → IfOk r (λ t. ReadsAsCertificate kept (certificate_parts t)) → IfErr r (IsCertificateFault kept last)
     → ReadsAsCertificate kept C → ReadsBackCertificate C r
 given kept last C (Ok t) f g h = reads_one kept (certificate_parts t) C f h
-given kept last C (Err (CertForm n)) f g h = absurd (no_fault kept last n C h g)
+given kept last C (Err (CertForm n)) f g h = absurd (no_line_fault kept last n C h g)
 given kept last C (Err fault) f g h = g
 
 told : (kept : List Kept) (last n : ℕ) (r : Result CertText Fault)
     → IfOk r (λ t. ReadsAsCertificate kept (certificate_parts t)) → IfErr r (IsCertificateFault kept last)
     → HasCertificateFault kept last n → TellsCertificateFault n r
-told kept last n (Ok t) f g h = no_fault kept last n (certificate_parts t) f h
-told kept last n (Err (CertForm line)) f g h = one_fault kept last line n g h
+told kept last n (Ok t) f g h = no_line_fault kept last n (certificate_parts t) f h
+told kept last n (Err (CertForm line)) f g h = one_line_fault kept last line n g h
 told kept last n (Err fault) f g h = g
 
 pub returns-clause-given : goal.returns-clause-given

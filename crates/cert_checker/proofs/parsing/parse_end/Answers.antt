@@ -1,10 +1,11 @@
 use Rattle.std.proofs.Common.{◌≤◌, ◌*◌, ◌++◌, [], ◌∷◌, sym, subst, refl, arith}
 use Rattle.cert_checker.specs.CertTexts.{CertParts, IsLawfulCertificate, certificate_end}
-use Rattle.cert_checker.specs.CertReading.{kept_behind, last_line, IsCertificateFault}
+use Rattle.text_io.specs.Formats.{kept_behind, last_line}
+use Rattle.cert_checker.specs.CertReading.{IsCertificateFault}
 use Rattle.cert_checker.specs.LineSteps.{head_parts, first_lines}
-use Rattle.cert_checker.proofs.Fronts.{begins_rows, begins_whole}
+use Rattle.cert_checker.proofs.Fronts.{begins_rows}
 use Rattle.cert_checker.proofs.NextLines.{short_rows, stuck_end, stuck_past}
-use Rattle.cert_checker.proofs.PlacesRead.{line_read, line_fault, stop_fault, all_read, line_in}
+use Rattle.text_io.proofs.FormatLaws.{begins_whole, line_read, line_fault, stop_fault, all_read, line_in}
 use Rattle.cert_checker.proofs.parsing.parse_end.Goals as goal
 
 pub returns-in_default-clause-fault : goal.returns-in_default-clause-fault

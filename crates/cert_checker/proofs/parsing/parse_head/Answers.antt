@@ -1,10 +1,11 @@
 use Rattle.std.proofs.Common.{[], sym, subst, refl}
 use Rattle.cert_checker.specs.CertTexts.{head_line}
-use Rattle.cert_checker.specs.CertReading.{kept_behind, last_line, IsCertificateFault}
+use Rattle.text_io.specs.Formats.{kept_behind, last_line}
+use Rattle.cert_checker.specs.CertReading.{IsCertificateFault}
 use Rattle.cert_checker.specs.LineSteps.{head_parts}
 use Rattle.cert_checker.proofs.Fronts.{begins_none}
 use Rattle.cert_checker.proofs.NextLines.{short_none, stuck_head}
-use Rattle.cert_checker.proofs.PlacesRead.{none_read, line_read, line_fault, stop_fault, line_in}
+use Rattle.text_io.proofs.FormatLaws.{none_read, line_read, line_fault, stop_fault, line_in}
 use Rattle.cert_checker.proofs.parsing.parse_head.Goals as goal
 
 pub returns-in_default-clause-fault : goal.returns-in_default-clause-fault

@@ -2,11 +2,13 @@ use Rattle.std.proofs.Common.{◌≤◌, ◌*◌, ◌+◌, ℤ, List, sym, subst
 use Rattle.std.proofs.lemmas.Bool.{MatchBool-at_true, MatchBool-at_false}
 use Rattle.text_io.specs.WordLists.{Word, Matches}
 use Rattle.cert_checker.specs.CertTexts.{IsValueRow, row_line}
-use Rattle.cert_checker.specs.CertReading.{kept_behind, last_line, IsCertificateFault}
-use Rattle.cert_checker.specs.LineSteps.{HasRead, PutsRow, head_parts, first_lines}
+use Rattle.text_io.specs.Formats.{kept_behind, last_line}
+use Rattle.cert_checker.specs.CertReading.{IsCertificateFault}
+use Rattle.text_io.specs.Formats.{HasRead}
+use Rattle.cert_checker.specs.LineSteps.{PutsRow, head_parts, first_lines}
 use Rattle.cert_checker.proofs.Fronts.{begins_rows, lines_more}
 use Rattle.cert_checker.proofs.NextLines.{short_rows, stuck_row}
-use Rattle.cert_checker.proofs.PlacesRead.{line_read, line_fault, stop_fault, line_in}
+use Rattle.text_io.proofs.FormatLaws.{line_read, line_fault, stop_fault, line_in}
 use Rattle.cert_checker.proofs.parsing.parse_row.Goals as goal
 
 pub returns-in_default-clause-fault : goal.returns-in_default-clause-fault

@@ -1,6 +1,7 @@
 use Rattle.std.proofs.Common.{◌≡◌, ◌+◌, ◌*◌, length, All}
 use Rattle.strip_graph.specs.Certificates.{IsModest}
-use Rattle.cert_checker.specs.LineSteps.{HasRead, head_parts, first_lines}
+use Rattle.text_io.specs.Formats.{HasRead}
+use Rattle.cert_checker.specs.LineSteps.{head_parts, first_lines}
 use Rattle.cert_checker.proofs.parsing.parse_rows.Given as goal
 
 abbrev pub invariant-loop-row : goal.invariant-loop-row

@@ -4,7 +4,8 @@ use Rattle.std.specs.List.{AllZip}
 use Rattle.text_io.specs.WordLists.{Kept, Matches, lines_of}
 use Rattle.fku_types.specs.declared.fault.Fault.{Fault}
 use Rattle.cert_checker.specs.CertTexts.{CertHead, IsHead, head_line}
-use Rattle.cert_checker.specs.CertReading.{kept_behind, HasFirstLine, IsCertMemory}
+use Rattle.text_io.specs.Formats.{kept_behind}
+use Rattle.cert_checker.specs.CertReading.{HasFirstLine, IsCertMemory}
 use Rattle.cert_checker.specs.LineSteps.{head_parts}
 use Rattle.cert_checker.proofs.Fronts.{begins_head}
 use Rattle.cert_checker.proofs.parsing.parse_text.Goals as goal

@@ -4,11 +4,12 @@ use Rattle.std.specs.Global.{Global}
 use Rattle.strip_graph.specs.declared.tilings.Step.{Step}
 use Rattle.text_io.specs.WordLists.{Matches}
 use Rattle.cert_checker.specs.CertTexts.{IsWord, head_line, word_line}
-use Rattle.cert_checker.specs.CertReading.{kept_behind, last_line, IsCertificateFault}
+use Rattle.text_io.specs.Formats.{kept_behind, last_line}
+use Rattle.cert_checker.specs.CertReading.{IsCertificateFault}
 use Rattle.cert_checker.specs.LineSteps.{head_parts}
 use Rattle.cert_checker.proofs.Fronts.{begins_head}
 use Rattle.cert_checker.proofs.NextLines.{short_head, stuck_word}
-use Rattle.cert_checker.proofs.PlacesRead.{line_read, line_fault, stop_fault, line_in}
+use Rattle.text_io.proofs.FormatLaws.{line_read, line_fault, stop_fault, line_in}
 use Rattle.cert_checker.proofs.parsing.parse_word.Goals as goal
 
 pub returns-in_default-clause-fault : goal.returns-in_default-clause-fault

@@ -4,7 +4,8 @@ use Rattle.fku_types.specs.declared.limits.TheConstants.{MAX_CHECK_BYTES}
 use Rattle.text_io.specs.Text.{lines}
 use Rattle.text_io.specs.WordLists.{Line, Matches}
 use Rattle.cert_checker.specs.CertTexts.{cert_lines, cert_text, certificate_parts}
-use Rattle.cert_checker.specs.CertReading.{kept_behind, ReadsAsCertificate}
+use Rattle.text_io.specs.Formats.{kept_behind}
+use Rattle.cert_checker.specs.CertReading.{ReadsAsCertificate}
 use Rattle.cert_checker.proofs.PrintedCerts.{lines_any, lines_writable}
 use Rattle.cert_checker.proofs.PrintedSizes.{text_short}
 use Rattle.cert_checker.proofs.printing.print_cert.Goals as goal

@@ -1,6 +1,6 @@
 use Rattle.std.proofs.Common.{ℕ, ◌+◌, ◌-◌, ◌*◌, ◌<◌, length, arith}
 use Rattle.std.proofs.lemmas.Int.{ints}
-use Rattle.round_sweeps.proofs.BandLaws.{sums_more}
+use Rattle.round_sweeps.proofs.BackLaws.{sums_more}
 use Rattle.round_sweeps.proofs.bands.fill_ends.Goals as goal
 
 pub loop-row-preserved : goal.loop-row-preserved

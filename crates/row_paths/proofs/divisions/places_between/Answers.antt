@@ -7,7 +7,9 @@ use Rattle.row_paths.specs.Turns.{start_of, end_of}
 use Rattle.row_paths.proofs.Counting.{area-whole}
 use Rattle.row_paths.proofs.Places.{bound_at-read}
 use Rattle.row_paths.proofs.TurnLaws.{path_within}
+use Rattle.row_paths.proofs.divisions.places_between.Given as given
 use Rattle.row_paths.proofs.divisions.places_between.Goals as goal
+use Rattle.row_paths.proofs.divisions.places_between.Goals.{After-saturating_sub-places}
 
 -- one more row of a region whose bounds are read
 row_more : (lo hi : List ℕ) (i k x : ℕ) → i + k + 1 < length hi → i + k < length lo
@@ -29,35 +31,35 @@ few_places lo hi n i k within narrow few =
     let size : n + 1 ≤ 4097 = omega arith in
     omega (arith, area-whole (bound_at lo) (last_at hi) n (λ x. within (x + 1)) i k, mul-le-mul few size)
 
+-- one more row is counted
+more : (g : given.Over) (c : After-saturating_sub-places g)
+    → area (bound_at c.args.gap.now.lo.now) (last_at c.args.gap.now.hi.now) (c.args.gap.now.first / 2) c.loop-k.k
+    + c.saturating_sub-places.result
+    ≡ area (bound_at c.args.gap.now.lo.now) (last_at c.args.gap.now.hi.now) (c.args.gap.now.first / 2)
+    (c.loop-k.k + 1)
+more g c =
+    let m' : c.rows-rows.result ≡ rows c.args.strip.now = search rules in
+    row_more c.args.gap.now.lo.now c.args.gap.now.hi.now (c.args.gap.now.first / 2) c.loop-k.k
+    c.saturating_sub-places.result
+    (omega (arith, c.loop-k-test.true, c.requires.gap.hi, c.requires.gap.last, m'))
+    (omega (arith, c.loop-k-test.true, c.requires.gap.lo, c.requires.gap.last, m'))
+    (omega (arith, c.saturating_sub-places.ensures, c.from.ensures, c.from-last.ensures))
+
 pub overflow_add-places : goal.overflow_add-places
 overflow_add-places g c =
-    let lo = c.args.gap.now.lo.now in
     let hi = c.args.gap.now.hi.now in
     let i : ℕ = c.args.gap.now.first / 2 in
     let k = c.loop-k.k in
     let m' : c.rows-rows.result ≡ rows c.args.strip.now = search rules in
-    let more = row_more lo hi i k c.saturating_sub-places.result
-    (omega (arith, c.loop-k-test.true, c.requires.gap.hi, c.requires.gap.last, m'))
-    (omega (arith, c.loop-k-test.true, c.requires.gap.lo, c.requires.gap.last, m'))
-    (omega (arith, c.saturating_sub-places.ensures, c.from.ensures, c.from-last.ensures)) in
-    let few = few_places lo hi (cols c.args.strip.now) i (k + 1)
+    let few = few_places c.args.gap.now.lo.now hi (cols c.args.strip.now) i (k + 1)
     (path_within (arcs c.args.strip.now) (rows c.args.strip.now) (cols c.args.strip.now) c.args.gap.now.first hi
     c.requires.gap.from) c.cols-cols.ensures.ring.few
     (omega (arith, c.loop-k-test.true, c.requires.gap.last, m', c.rows-rows.ensures.ring.few)) in
-    omega (arith, more, few, c.loop-k.invariant)
+    omega (arith, more g (goal.at.overflow_add-places g c).After-saturating_sub-places, few, c.loop-k.invariant)
 
 pub loop-k-preserved : goal.loop-k-preserved
 loop-k-preserved g c =
-    let lo = c.args.gap.now.lo.now in
-    let hi = c.args.gap.now.hi.now in
-    let i : ℕ = c.args.gap.now.first / 2 in
-    let k = c.loop-k.k in
-    let m' : c.rows-rows.result ≡ rows c.args.strip.now = search rules in
-    let more = row_more lo hi i k c.saturating_sub-places.result
-    (omega (arith, c.loop-k-test.true, c.requires.gap.hi, c.requires.gap.last, m'))
-    (omega (arith, c.loop-k-test.true, c.requires.gap.lo, c.requires.gap.last, m'))
-    (omega (arith, c.saturating_sub-places.ensures, c.from.ensures, c.from-last.ensures)) in
-    omega (arith, more, c.loop-k.invariant)
+    omega (arith, more g (goal.at.loop-k-preserved g c).After-saturating_sub-places, c.loop-k.invariant)
 
 pub returns-clause-places : goal.returns-clause-places
 returns-clause-places g c =

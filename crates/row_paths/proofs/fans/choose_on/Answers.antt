@@ -9,32 +9,38 @@ use Rattle.row_paths.proofs.AmountLaws.{read_is}
 use Rattle.row_paths.proofs.Places.{cost_fits}
 use Rattle.row_paths.proofs.BoundLaws.{lt_up, le_lt, lt_lt, le_le, lt_le, next_le, lt_of_next, plus_less, eq_le, le_to, lt_eq, sum_eq, right_two}
 use Rattle.row_paths.proofs.FanLaws.{on_fits, on_both, after_less}
+use Rattle.row_paths.proofs.fans.choose_on.Given as given
 use Rattle.row_paths.proofs.fans.choose_on.Goals as goal
+use Rattle.row_paths.proofs.fans.choose_on.Goals.{Start, In-loop-col}
 
-pub bounds-sums-first : goal.bounds-sums-first
-bounds-sums-first g c = le_lt (le_le c.requires.order
+-- the first column, and the one after a column of the loop, are in the sums
+first_in : (g : given.Over) (c : Start g) → c.args.first < length c.args.sums.now
+first_in g c = le_lt (le_le c.requires.order
     (eq_le c.requires.last (c.args.region.now.shape.within c.args.above.now.row))) c.requires.sums
 
+next_in : (g : given.Over) (c : In-loop-col g) → c.loop-col.col + 1 ≤ c.args.region.now.width
+next_in g c =
+    next_le (lt_up c.loop-col-test.true (eq_le c.requires.last (c.args.region.now.shape.within c.args.above.now.row)))
+
+next_in_sums : (g : given.Over) (c : In-loop-col g) → c.loop-col.col + 1 < length c.loop-col.sums
+next_in_sums g c = lt_eq (le_lt (next_in g c) c.requires.sums) c.loop-col.auto.sums
+
+pub bounds-sums-first : goal.bounds-sums-first
+bounds-sums-first g c = first_in g (goal.at.bounds-sums-first g c).Start
+
 pub bounds-sums-col : goal.bounds-sums-col
-bounds-sums-col g c = lt_eq (le_lt
-    (next_le (lt_up c.loop-col-test.true (eq_le c.requires.last (c.args.region.now.shape.within c.args.above.now.row))))
-    c.requires.sums) c.loop-col.auto.sums
+bounds-sums-col g c = next_in_sums g (goal.at.bounds-sums-col g c).In-loop-col
 
 pub bounds-sums-col-in-loop-col : goal.bounds-sums-col-in-loop-col
-bounds-sums-col-in-loop-col g c = lt_eq
-    (le_lt (next_le (lt_up c.loop-col-test.true
-    (eq_le c.requires.last (c.args.region.now.shape.within c.args.above.now.row)))) c.requires.sums)
-    c.loop-col.auto.sums
+bounds-sums-col-in-loop-col g c = next_in_sums g (goal.at.bounds-sums-col-in-loop-col g c).In-loop-col
 
 pub down-down-requires : goal.down-down-requires
-down-down-requires g c = le_le (next_le
-    (lt_up c.loop-col-test.true (eq_le c.requires.last (c.args.region.now.shape.within c.args.above.now.row))))
-    c.requires.width
+down-down-requires g c = le_le (next_in g (goal.at.down-down-requires g c).In-loop-col) c.requires.width
 
 pub right-right-requires : goal.right-right-requires
-right-right-requires g c = lt_eq (lt_up
-    (lt_up c.loop-col-test.true (eq_le c.requires.last (c.args.region.now.shape.within c.args.above.now.row)))
-    c.requires.width) (ap cols c.requires.strip)
+right-right-requires g c =
+    lt_eq (lt_of_next (le_le (next_in g (goal.at.right-right-requires g c).In-loop-col) c.requires.width))
+    (ap cols c.requires.strip)
 
 pub plus-by_v-requires : goal.plus-by_v-requires
 plus-by_v-requires g c =
@@ -48,7 +54,7 @@ plus-by_v-requires g c =
     let to : col ≤ last_at c.args.region.now.hi.now x = next_le (lt_eq c.loop-col-test.true (sym c.requires.last)) in
     let at : col ≤ cols p = le_le (le_le to within) c.requires.width in
     let u = read_is value c.loop-col.sums col c.index-sums-col.result c.index-sums-col.is
-    (lt_eq (le_lt (le_le to within) c.requires.sums) c.loop-col.auto.sums) in
+    (next_in_sums g (goal.at.plus-by_v-requires g c).In-loop-col) in
     let fits = cost_fits g.C.Sum.Amount.MOST p (arcs p) (bound_at c.args.region.now.lo.now)
     (last_at c.args.region.now.hi.now) x col c.args.region.now.start c.args.left
     (get_or (map value c.loop-col.sums) col 0) (cost c.down-down.result)
@@ -64,7 +70,6 @@ plus-by_h-requires g c =
     let col = c.loop-col.col in
     let to : col < last_at c.args.region.now.hi.now x = lt_eq c.loop-col-test.true (sym c.requires.last) in
     let at : col < cols p = lt_up (lt_up to (c.args.region.now.shape.within x)) c.requires.width in
-    let at' : col < cols c.args.from.now.strip = lt_eq at (ap cols c.requires.strip) in
     on_fits g.C.Sum.Amount.MOST p (arcs p) (bound_at c.args.region.now.lo.now) (last_at c.args.region.now.hi.now)
     c.args.region.now.start c.args.left (x + 1) col (value c.loop-col.sum) (cost c.right-right.result)
     (map value c.loop-col.sums)
@@ -83,15 +88,10 @@ loop-col-preserved g c =
     let hi = last_at c.args.region.now.hi.now in
     let i = c.args.region.now.start in
     let col = c.loop-col.col in
-    let within = c.args.region.now.shape.within x in
     let to : col + 1 ≤ hi x = next_le (lt_eq c.loop-col-test.true (sym c.requires.last)) in
-    let at : col + 1 ≤ cols p = le_le (le_le to within) c.requires.width in
-    let at' : col < cols c.args.from.now.strip = lt_eq (lt_of_next at) (ap cols c.requires.strip) in
-    let here : col + 1 < length (map value c.loop-col.sums) =
-    lt_eq (lt_eq (le_lt (le_le to within) c.requires.sums) c.loop-col.auto.sums) (length-map c.loop-col.sums value)
-    in
-    let u = read_is value c.loop-col.sums (col + 1) c.index-sums-col.result c.index-sums-col.is
-    (lt_eq (le_lt (le_le to within) c.requires.sums) c.loop-col.auto.sums) in
+    let next = next_in_sums g (goal.at.loop-col-preserved g c).In-loop-col in
+    let here : col + 1 < length (map value c.loop-col.sums) = lt_eq next (length-map c.loop-col.sums value) in
+    let u = read_is value c.loop-col.sums (col + 1) c.index-sums-col.result c.index-sums-col.is next in
     let y = c.down-down.ensures.value in
     let z = c.right-right.ensures.value in
     let by_v : value c.plus-by_v.result ≡ get_or (map value c.loop-col.sums) (col + 1) 0 + cost c.down-down.result =
@@ -121,31 +121,17 @@ loop-col-init g c =
       reached = reached_first g.C.Sum.Amount.value (largest g.C.Sum.Amount.MOST p) (arcs p)
           (bound_at c.args.region.now.lo.now) (last_at c.args.region.now.hi.now) c.args.region.now.start c.args.left
           (c.args.above.now.row + 1) c.args.first c.args.sums.now c.index-sums-first.result c.index-sums-first.is
-          (le_lt (le_le c.requires.order (eq_le c.requires.last (c.args.region.now.shape.within c.args.above.now.row)))
-          c.requires.sums) c.requires.reached;
+          (first_in g (goal.at.loop-col-init g c).Start) c.requires.reached;
       after = c.requires.after;
       count = none_left_of_two c.args.steps.now c.args.first;
     }
 
 pub offset_bounds-sums-first : goal.offset_bounds-sums-first
-offset_bounds-sums-first g c =
-    let at : c.args.first < length c.args.sums.now =
-    le_lt (le_le c.requires.order (eq_le c.requires.last (c.args.region.now.shape.within c.args.above.now.row)))
-    c.requires.sums in
-    search (rules, at)
+offset_bounds-sums-first g c = search (rules, first_in g (goal.at.offset_bounds-sums-first g c).Start)
 
 pub offset_bounds-sums-col : goal.offset_bounds-sums-col
-offset_bounds-sums-col g c =
-    let at : c.loop-col.col + 1 < length c.loop-col.sums =
-    lt_eq (le_lt (next_le (lt_up c.loop-col-test.true
-    (eq_le c.requires.last (c.args.region.now.shape.within c.args.above.now.row)))) c.requires.sums)
-    c.loop-col.auto.sums in
-    search (rules, at)
+offset_bounds-sums-col g c = search (rules, next_in_sums g (goal.at.offset_bounds-sums-col g c).In-loop-col)
 
 pub offset_bounds-sums-col-in-loop-col : goal.offset_bounds-sums-col-in-loop-col
 offset_bounds-sums-col-in-loop-col g c =
-    let at : c.loop-col.col + 1 < length c.loop-col.sums =
-    lt_eq (le_lt (next_le (lt_up c.loop-col-test.true
-    (eq_le c.requires.last (c.args.region.now.shape.within c.args.above.now.row)))) c.requires.sums)
-    c.loop-col.auto.sums in
-    search (rules, at)
+    search (rules, next_in_sums g (goal.at.offset_bounds-sums-col-in-loop-col g c).In-loop-col)

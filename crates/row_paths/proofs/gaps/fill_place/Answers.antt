@@ -6,27 +6,34 @@ use Rattle.row_paths.specs.Counts.{area}
 use Rattle.row_paths.specs.Fans.{HasEnds, HasTurnCosts}
 use Rattle.row_paths.proofs.AmountLaws.{written, kept}
 use Rattle.row_paths.proofs.TurnLaws.{path_within, between_region}
-use Rattle.row_paths.proofs.GapLaws.{cut_of, before_region, fan_costs, fan_takes}
+use Rattle.row_paths.proofs.GapLaws.{IsCut, cut_of, before_region, fan_costs, fan_takes}
+use Rattle.row_paths.proofs.gaps.fill_place.Given as given
 use Rattle.row_paths.proofs.gaps.fill_place.Goals as goal
+use Rattle.row_paths.proofs.gaps.fill_place.Goals.{After-deref-2}
+
+-- the bounds of the region before the shared place
+left : (g : given.Over) (c : After-deref-2 g) → IsCut c.args.gap.now.lo.now c.deref.result.now c.args.col
+left g c = cut_of c.args.gap.now.lo.now c.in_ok-lo.lo.items c.deref.result.now c.args.col c.deref.ensures.value
+    c.in_ok-lo.ensures.count c.in_ok-lo.ensures.are
+
+right : (g : given.Over) (c : After-deref-2 g) → IsCut c.args.gap.now.hi.now c.deref-2.result.now c.args.col
+right g c = cut_of c.args.gap.now.hi.now c.in_ok-hi.hi.items c.deref-2.result.now c.args.col c.deref-2.ensures.value
+    c.in_ok-hi.ensures.count c.in_ok-hi.ensures.are
 
 pub invariant_of-before : goal.invariant_of-before
 invariant_of-before g c =
     let a = arcs c.args.strip.now in
     let m = rows c.args.strip.now in
     let n = cols c.args.strip.now in
-    let q = c.args.gap.now.first in
-    let q' = c.args.gap.now.last in
     let x = c.args.row in
     let lo = c.args.gap.now.lo.now in
     let hi = c.args.gap.now.hi.now in
-    let left = cut_of lo c.in_ok-lo.lo.items c.deref.result.now c.args.col c.deref.ensures.value
-    c.in_ok-lo.ensures.count c.in_ok-lo.ensures.are in
-    let right = cut_of hi c.in_ok-hi.hi.items c.deref-2.result.now c.args.col c.deref-2.ensures.value
-    c.in_ok-hi.ensures.count c.in_ok-hi.ensures.are in
+    let before = left g (goal.at.invariant_of-before g c).After-deref-2 in
+    let after = right g (goal.at.invariant_of-before g c).After-deref-2 in
     record {
       lo_fits = omega (
         arith,
-        left.count,
+        before.count,
         c.requires.gap.lo,
         c.requires.below,
         c.requires.gap.order,
@@ -34,7 +41,7 @@ invariant_of-before g c =
       );
       hi_fits = omega (
         arith,
-        right.count,
+        after.count,
         c.requires.gap.hi,
         c.requires.below,
         c.requires.gap.order,
@@ -55,7 +62,7 @@ invariant_of-before g c =
             c.requires.gap.first_below,
             c.requires.gap.last_above,
           )) (omega (arith, c.requires.gap.lo)) (omega (arith, c.requires.gap.hi))
-          c.requires.gap.from c.requires.gap.to c.requires.right left right;
+          c.requires.gap.from c.requires.gap.to c.requires.right before after;
     }
 
 pub fill_table-requires-clause-width : goal.fill_table-requires-clause-width
@@ -72,7 +79,6 @@ invariant_of-after g c =
     let a = arcs c.args.strip.now in
     let m = rows c.args.strip.now in
     let n = cols c.args.strip.now in
-    let q = c.args.gap.now.first in
     let q' = c.args.gap.now.last in
     let lo = c.args.gap.now.lo.now in
     let hi = c.args.gap.now.hi.now in
@@ -131,10 +137,8 @@ returns-clause-costs g c = λ gap shared is.
     let x = c.args.row in
     let lo = c.args.gap.now.lo.now in
     let hi = c.args.gap.now.hi.now in
-    let left = cut_of lo c.in_ok-lo.lo.items c.deref.result.now c.args.col c.deref.ensures.value
-    c.in_ok-lo.ensures.count c.in_ok-lo.ensures.are in
-    let right = cut_of hi c.in_ok-hi.hi.items c.deref-2.result.now c.args.col c.deref-2.ensures.value
-    c.in_ok-hi.ensures.count c.in_ok-hi.ensures.are in
+    let before = left g (goal.at.returns-clause-costs g c).After-deref-2 in
+    let after = right g (goal.at.returns-clause-costs g c).After-deref-2 in
     let m' : c.rows-rows.result ≡ m = search rules in
     let n' : c.cols-width.result ≡ n = search rules in
     let end : (q' + 1) / 2 + c.rows-rows.result ≡ end_of m q' = omega (arith, m') in
@@ -146,7 +150,7 @@ returns-clause-costs g c = λ gap shared is.
     (written new c.fill_table.new.table.ends.items c.fill_table.new.table.ends.len size))
     (fan_costs a m n q q' x c.args.col lo hi c.deref.result.now c.deref-2.result.now
     (map g.C.Sum.Amount.value c.fill_table.new.table.starts.items) ends (omega (arith, c.requires.gap.lo))
-    (omega (arith, c.requires.gap.hi)) gap.from gap.to shared is left right
+    (omega (arith, c.requires.gap.hi)) gap.from gap.to shared is before after
     c.fill_table.ensures.starts (subst₂ (λ (k e : ℕ). HasEnds a (bound_at lo) (last_at hi) x c.args.col k e ends) n' end
     c.fill_ends.ensures.ends))
 
@@ -160,10 +164,8 @@ returns-clause-count g c =
     let x = c.args.row in
     let lo = c.args.gap.now.lo.now in
     let hi = c.args.gap.now.hi.now in
-    let left = cut_of lo c.in_ok-lo.lo.items c.deref.result.now c.args.col c.deref.ensures.value
-    c.in_ok-lo.ensures.count c.in_ok-lo.ensures.are in
-    let right = cut_of hi c.in_ok-hi.hi.items c.deref-2.result.now c.args.col c.deref-2.ensures.value
-    c.in_ok-hi.ensures.count c.in_ok-hi.ensures.are in
+    let before = left g (goal.at.returns-clause-count g c).After-deref-2 in
+    let after = right g (goal.at.returns-clause-count g c).After-deref-2 in
     let m' : c.rows-rows.result ≡ m = search rules in
     let end : (q' + 1) / 2 + c.rows-rows.result ≡ end_of m q' = omega (arith, m') in
     let takes = fan_takes a m n c.requires.gap.above q q' c.requires.gap.below x c.args.col lo hi c.deref.result.now
@@ -174,7 +176,7 @@ returns-clause-count g c =
       c.requires.gap.last_above,
     )) (omega (arith, c.requires.gap.lo)) (omega (arith, c.requires.gap.hi))
     c.requires.gap.from c.requires.gap.to (omega (arith, c.requires.above, c.requires.gap.order))
-    (omega (arith, c.requires.below, c.requires.gap.order)) c.requires.left c.requires.right left right in
+    (omega (arith, c.requires.below, c.requires.gap.order)) c.requires.left c.requires.right before after in
     omega (
       arith,
       takes,

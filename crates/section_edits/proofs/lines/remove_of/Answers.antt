@@ -1,20 +1,13 @@
-use Rattle.std.proofs.Common.{◌∙◌, [], ◌∷◌, pos, sym, arith}
-use Rattle.std.proofs.lemmas.Bool.{eqb-false}
-use Rattle.text_io.specs.WordLists.{text, number}
-use Rattle.section_edits.specs.Reading.{texts}
-use Rattle.section_edits.proofs.Wording.{matches_length, remove_only, texts_length}
+use Rattle.std.proofs.Common.{ℕ, List, [], ◌∷◌, pos, subst, arith}
+use Rattle.text_io.specs.Text.{words}
+use Rattle.text_io.specs.WordLists.{text, number, Matches}
+use Rattle.text_io.proofs.WordLaws.{count_none}
+use Rattle.section_edits.proofs.Wording.{remove_only}
 use Rattle.section_edits.proofs.lines.remove_of.Goals as goal
 
-pub returns-then-not-is_empty-clause-reading : goal.returns-then-not-is_empty-clause-reading
-returns-then-not-is_empty-clause-reading c =
-    let ws = c.args.words.now in
-    let more = eqb-false _ 0 (sym c.is_empty.ensures ∙ c.if-not-is_empty.true) in
-    remove_only (texts ws)
-    (λ name i m n k. absurd (omega (
-      arith,
-      matches_length (texts ws) (text name ∷ number (pos i) ∷ []) m,
-      texts_length ws,
-      more,
-      c.in-Some.ensures.cases.1,
-      c.in-Some-split_first.ensures.cases.1,
-    )))
+pub returns-in_default-split_count-clause-reading : goal.returns-in_default-split_count-clause-reading
+returns-in_default-split_count-clause-reading c =
+    remove_only (words c.args.line.now) (λ name i m n k.
+    let h = subst (λ (ws : List (List ℕ)). Matches ws (text name ∷ number (pos i) ∷ [])) c.in-Some.ensures m in
+    count_none (words c.in-Some.line.now) 0 4294967295 i [] c.in_default-split_count.ensures (omega arith)
+    (omega (arith, k)) h.1)

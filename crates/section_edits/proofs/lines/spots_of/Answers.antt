@@ -1,25 +1,49 @@
-use Rattle.std.proofs.Common.{◌%◌, ℕ, sym, ap, ◌∙◌, arith}
-use Rattle.std.proofs.lemmas.List.{length-map}
-use Rattle.section_edits.specs.Reading.{texts}
-use Rattle.section_edits.proofs.Wording.{odd_none, no_place_at, reads_at, reads_end}
+use Rattle.std.proofs.Common.{List, ◌≡◌, ◌+◌, ◌∷◌, [], length, ap, ◌∙◌, length-append, arith}
+use Rattle.fku_types.specs.declared.points.Spot.{Spot}
+use Rattle.text_io.specs.Text.{words}
+use Rattle.section_edits.proofs.Wording.{no_first, no_second, no_place, one_place, all_places}
 use Rattle.section_edits.proofs.lines.spots_of.Goals as goal
-
-pub returns-then-words-ne0 : goal.returns-then-words-ne0
-returns-then-words-ne0 c =
-    odd_none (texts c.args.words.now) (λ e.
-    c.if-words-ne0.true (ap (λ (n : ℕ). n % 2) (sym (length-map c.args.words.now (λ v. v.now))) ∙ e))
 
 pub returns-in_default : goal.returns-in_default
 returns-in_default c =
-    no_place_at c.args.words.now c.loop-place.place c.loop-place.spots.items _ _ (omega (arith, c.loop-place-test.true))
-    c.loop-place.invariant c.in_default.ensures
+    let loop = c.loop-done in
+    no_first (words c.args.line.now) (words loop.rest.now) loop.spots.items loop._done c.args.count
+    loop.invariant.reads loop.invariant.count c.loop-done-test.true c.in_default.ensures
 
-pub loop-place-preserved : goal.loop-place-preserved
-loop-place-preserved c =
-    reads_at c.args.words.now c.loop-place.place c.loop-place.spots.items c.push.new.self.items c.in-Some.spot _ _
-    (omega (arith, c.loop-place-test.true)) c.loop-place.invariant c.in-Some.ensures c.in_ok-push.ensures.items
+pub returns-in_default-split_word : goal.returns-in_default-split_word
+returns-in_default-split_word c =
+    let loop = c.loop-done in
+    no_second (words c.args.line.now) (words loop.rest.now) loop.spots.items loop._done c.args.count c.in-Some.x.now
+    (words c.in-Some.more.now) loop.invariant.reads loop.invariant.count c.loop-done-test.true c.in-Some.ensures
+    c.in_default-split_word.ensures
 
-pub returns : goal.returns
-returns c =
-    reads_end c.args.words.now c.loop-place.place c.loop-place.spots.items
-    (omega (arith, c.loop-place-test.false, c.if-words-ne0.false)) c.loop-place.invariant
+pub returns-in_default-spot_of : goal.returns-in_default-spot_of
+returns-in_default-spot_of c =
+    let loop = c.loop-done in
+    let two = c.in-Some-split_word in
+    no_place (words c.args.line.now) (words loop.rest.now) loop.spots.items loop._done c.args.count c.in-Some.x.now
+    two.y.now (words c.in-Some.more.now) (words two.more.now) loop.invariant.reads loop.invariant.count
+    c.loop-done-test.true c.in-Some.ensures two.ensures c.in_default-spot_of.ensures
+
+pub loop-done-preserved : goal.loop-done-preserved
+loop-done-preserved c =
+    let loop = c.loop-done in
+    let two = c.in-Some-split_word in
+    let spot = c.in-Some-spot_of.spot in
+    let new = c.push.new.self.items in
+    let longer : length new ≡ length loop.spots.items + 1 =
+    ap (λ (ps : List Spot). length ps) c.in_ok-push.ensures.items ∙ length-append loop.spots.items (spot ∷ []) in
+    record {
+      count = omega (arith, longer, loop.invariant.count);
+      reads = one_place (words c.args.line.now) (words loop.rest.now) loop.spots.items new c.in-Some.x.now two.y.now
+          (words c.in-Some.more.now) (words two.more.now) spot loop.invariant.reads c.in-Some.ensures two.ensures
+          c.in-Some-spot_of.ensures c.in_ok-push.ensures.items;
+    }
+
+pub returns-in-None : goal.returns-in-None
+returns-in-None c =
+    let loop = c.loop-done in (
+      omega (arith, loop.invariant.count, c.loop-done-test.false),
+      all_places (words c.args.line.now) (words loop.rest.now) loop.spots.items loop.invariant.reads
+          c.in-None.ensures,
+    )

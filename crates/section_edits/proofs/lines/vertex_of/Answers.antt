@@ -1,21 +1,12 @@
-use Rattle.std.proofs.Common.{◌∙◌, sym, arith}
-use Rattle.std.proofs.lemmas.Bool.{eqb-false}
-use Rattle.section_edits.specs.Reading.{texts, vertex_words}
-use Rattle.section_edits.proofs.Wording.{matches_length, texts_length}
+use Rattle.std.proofs.Common.{ℕ, List, [], ◌∷◌, subst, arith}
+use Rattle.text_io.specs.Text.{words}
+use Rattle.text_io.specs.WordLists.{number, Matches}
+use Rattle.text_io.proofs.WordLaws.{count_none}
+use Rattle.section_edits.specs.Reading.{vertex_words}
 use Rattle.section_edits.proofs.lines.vertex_of.Goals as goal
 
-pub returns-then-not-is_empty : goal.returns-then-not-is_empty
-returns-then-not-is_empty c name i x y m n k p q =
-    let ws = c.args.words.now in
-    let more = eqb-false _ 0 (sym c.is_empty.ensures ∙ c.if-not-is_empty.true) in
-    absurd
-    (omega (
-      arith,
-      matches_length (texts ws) (vertex_words name i x y) m,
-      texts_length ws,
-      more,
-      c.in-Some.ensures.cases.1,
-      c.in-Some-split_first.ensures.cases.1,
-      c.in-Some-split_first-2.ensures.cases.1,
-      c.in-Some-split_first-3.ensures.cases.1,
-    ))
+pub returns-in_default-split_count : goal.returns-in_default-split_count
+returns-in_default-split_count c name i x y m n k p q =
+    let h = subst (λ (ws : List (List ℕ)). Matches ws (vertex_words name i x y)) c.in-Some.ensures m in
+    count_none (words c.in-Some.line.now) 0 4294967295 i (number x ∷ number y ∷ []) c.in_default-split_count.ensures
+    (omega arith) (omega (arith, k)) h.1

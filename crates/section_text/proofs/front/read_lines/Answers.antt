@@ -1,19 +1,17 @@
-use Rattle.std.proofs.Common.{◌≡◌, ℕ, ◌+◌, true, List, drop, Result, Ok, Err, ap, sym, subst, ◌∙◌, refl, arith}
+use Rattle.std.proofs.Common.{◌≡◌, ℕ, ◌+◌, drop, Result, Ok, Err, ap, sym, subst, ◌∙◌, refl, arith}
 use Rattle.std.specs.Prelude.{slice_range, IfErr}
 use Rattle.std.proofs.lemmas.Result.{err_from_is_err_and}
-use Rattle.text_io.specs.Text.{lines, kept_from, kept_lines, words, is_kept}
+use Rattle.text_io.specs.Text.{lines, kept_from, kept_lines, words}
 use Rattle.fku_types.specs.declared.fault.Fault.{Fault}
 use Rattle.section_text.specs.declared.front.ObjectsFront.{ObjectsFront}
 use Rattle.section_core.specs.Parts.{FileParts}
-use Rattle.section_core.specs.Reading.{Breach, HasFile, is_filled}
-use Rattle.text_io.specs.WordLists.{Kept}
-use Rattle.section_core.proofs.Answers.{file_holds}
-use Rattle.section_core.specs.Machine.{State, at_version, ended}
-use Rattle.section_core.specs.Reader.{AnswerOf, HoldsFile, judge, goes_on, read_file}
+use Rattle.section_core.specs.Reading.{Breach}
+use Rattle.section_core.specs.Machine.{State, at_version}
+use Rattle.section_core.specs.Reader.{AnswerOf, judge, goes_on, read_file}
 use Rattle.section_core.specs.Views.{held_file}
 use Rattle.section_text.specs.States.{state_of}
 use Rattle.section_text.specs.Fronts.{Parses, objects_given, IsReadMemory}
-use Rattle.section_text.proofs.FrontLemmas.{taken_ok, taken_err, finished_ok, finished_err, ended_front, line_read, open_read, ended_is, after_more, pass_one, kept_next, used_to, end_line_is}
+use Rattle.section_text.proofs.FrontLemmas.{taken_ok, taken_err, finished_ok, finished_err, line_here, end_here, file_here, judged_as, open_read, after_more, pass_one, used_to, end_line_is}
 use Rattle.section_text.proofs.FourLines.{line_memory, end_memory}
 use Rattle.section_text.proofs.front.read_lines.Goals as goal
 
@@ -22,37 +20,35 @@ returns-in_err-take_line-clause-parses c =
     let bytes = c.args.bytes.now in
     let n : ℕ = c.loop-span.count + 1 in
     let st : State = state_of c.loop-span.state in
-    let line : List ℕ = slice_range bytes c.in-Some.span.first c.in-Some.span.end in
-    let more : List (List ℕ) = lines (drop c.in-Some.span.next bytes) in
-    let kept : is_kept (words line) ≡ true = sym c.is_kept.ensures ∙ c.if-is_kept.true in
-    let on = line_read c.args.latest st n (lines (drop c.loop-span.at bytes)) line more
-    (read_file c.args.latest at_version (kept_lines bytes)) c.in-Some.ensures.found.lines kept
-    c.loop-span.invariant.same in
-    let tail : List Kept = kept_from (n + 1) more in
-    let taken = c.in_err-take_line.ensures.takes c.loop-span.invariant.tallied in
+    let line = slice_range bytes c.in-Some.span.first c.in-Some.span.end in
+    let more = lines (drop c.in-Some.span.next bytes) in
+    let here = line_here c.args.latest bytes st n (lines (drop c.loop-span.at bytes)) line more
+    c.in-Some.ensures.found.lines (sym c.is_kept.ensures ∙ c.if-is_kept.true) c.loop-span.invariant.same
+    c.loop-span.invariant.passed in
+    let fault = c.in_err-take_line.field-0.0 in
     let exit = err_from_is_err_and c.from_residual.result c.from_residual.ensures.1 in
-    let end : c.from_residual.result ≡ Err c.in_err-take_line.field-0.0 = exit.1 ∙ ap (λ (e : Fault). Err e) exit.2 in
+    let end : c.from_residual.result ≡ Err fault = exit.1 ∙ ap (λ (e : Fault). Err e) exit.2 in
     subst (λ (r : Result ObjectsFront Fault).
     Parses bytes (read_file c.args.latest at_version (kept_lines bytes)) (objects_given r)) (sym end)
-    (subst (λ (a : AnswerOf FileParts). Parses bytes a (objects_given (Err c.in_err-take_line.field-0.0))) on
-    (taken_err bytes n tail (λ next. read_file c.args.latest next tail) (judge c.args.latest st (words line))
-    c.in_err-take_line.field-0.0 c.take_line.new.tally taken))
+    (subst (λ (a : AnswerOf FileParts). Parses bytes a (objects_given (Err fault))) here.on
+    (taken_err bytes _ _ _ _ fault c.take_line.new.tally
+    (c.in_err-take_line.ensures.takes c.loop-span.invariant.tallied)))
 
 pub returns-in_err-take_line-clause-memory : goal.returns-in_err-take_line-clause-memory
 returns-in_err-take_line-clause-memory c =
     let bytes = c.args.bytes.now in
     let n : ℕ = c.loop-span.count + 1 in
     let st : State = state_of c.loop-span.state in
-    let line : List ℕ = slice_range bytes c.in-Some.span.first c.in-Some.span.end in
-    let more : List (List ℕ) = lines (drop c.in-Some.span.next bytes) in
-    let kept : is_kept (words line) ≡ true = sym c.is_kept.ensures ∙ c.if-is_kept.true in
-    let tail : List Kept = kept_from (n + 1) more in
-    let passed = kept_next c.args.latest (kept_lines bytes) n line (lines (drop c.loop-span.at bytes)) more st
-    c.in-Some.ensures.found.lines kept c.loop-span.invariant.passed in
+    let line = slice_range bytes c.in-Some.span.first c.in-Some.span.end in
+    let more = lines (drop c.in-Some.span.next bytes) in
+    let here = line_here c.args.latest bytes st n (lines (drop c.loop-span.at bytes)) line more
+    c.in-Some.ensures.found.lines (sym c.is_kept.ensures ∙ c.if-is_kept.true) c.loop-span.invariant.same
+    c.loop-span.invariant.passed in
+    let fault = c.in_err-take_line.field-0.0 in
     let exit = err_from_is_err_and c.from_residual.result c.from_residual.ensures.1 in
-    let end : c.from_residual.result ≡ Err c.in_err-take_line.field-0.0 = exit.1 ∙ ap (λ (e : Fault). Err e) exit.2 in
+    let end : c.from_residual.result ≡ Err fault = exit.1 ∙ ap (λ (e : Fault). Err e) exit.2 in
     subst (λ (r : Result ObjectsFront Fault). IfErr r (IsReadMemory c.args.latest bytes)) (sym end)
-    (line_memory c.args.latest bytes tail (n, words line) st c.in_err-take_line.field-0.0 c.take_line.new.tally passed
+    (line_memory c.args.latest bytes _ _ _ fault c.take_line.new.tally here.passed
     (c.in_err-take_line.ensures.takes c.loop-span.invariant.tallied) c.in_err-take_line.ensures.memory)
 
 pub loop-span-preserved-else-is_ended : goal.loop-span-preserved-else-is_ended
@@ -60,13 +56,12 @@ loop-span-preserved-else-is_ended c =
     let bytes = c.args.bytes.now in
     let n : ℕ = c.loop-span.count + 1 in
     let st : State = state_of c.loop-span.state in
-    let line : List ℕ = slice_range bytes c.in-Some.span.first c.in-Some.span.end in
-    let more : List (List ℕ) = lines (drop c.in-Some.span.next bytes) in
-    let kept : is_kept (words line) ≡ true = sym c.is_kept.ensures ∙ c.if-is_kept.true in
-    let on = line_read c.args.latest st n (lines (drop c.loop-span.at bytes)) line more
-    (read_file c.args.latest at_version (kept_lines bytes)) c.in-Some.ensures.found.lines kept
-    c.loop-span.invariant.same in
-    let tail : List Kept = kept_from (n + 1) more in
+    let line = slice_range bytes c.in-Some.span.first c.in-Some.span.end in
+    let more = lines (drop c.in-Some.span.next bytes) in
+    let here = line_here c.args.latest bytes st n (lines (drop c.loop-span.at bytes)) line more
+    c.in-Some.ensures.found.lines (sym c.is_kept.ensures ∙ c.if-is_kept.true) c.loop-span.invariant.same
+    c.loop-span.invariant.passed in
+    let tail = kept_from (n + 1) more in
     let taken = taken_ok n (judge c.args.latest st (words line)) c.take_line.new.state c.take_line.new.tally
     (c.in_ok-take_line.ensures.takes c.loop-span.invariant.tallied) in
     let goes = ap (λ (r : Result State Breach). goes_on r n tail (λ next. read_file c.args.latest next tail)) taken.0 in
@@ -75,14 +70,12 @@ loop-span-preserved-else-is_ended c =
     record {
       within = c.in-Some.ensures.found.takes_bytes.1;
       counted = omega (arith, c.loop-span.invariant.counted, c.in-Some.ensures.found.takes_bytes.0);
-      behind = after_more c.loop-span.count c.loop-span.at c.in-Some.span.next bytes c.loop-span.invariant.behind
-          c.in-Some.ensures.found.rest;
-      passed = pass_one c.args.latest (kept_lines bytes) tail (n, words line) st (state_of c.take_line.new.state)
-          taken.0 (kept_next c.args.latest (kept_lines bytes) n line (lines (drop c.loop-span.at bytes)) more st
-          c.in-Some.ensures.found.lines kept c.loop-span.invariant.passed);
+      behind = after_more c.loop-span.count c.loop-span.at c.in-Some.span.next c.args.bytes.now
+          c.loop-span.invariant.behind c.in-Some.ensures.found.rest;
+      passed = pass_one c.args.latest _ _ _ _ (state_of c.take_line.new.state) taken.0 here.passed;
       flat = c.in_ok-take_line.ensures.flat c.loop-span.invariant.flat;
       tallied = taken.1;
-      same = sym open' ∙ sym goes ∙ on;
+      same = sym open' ∙ sym goes ∙ here.on;
     }
 
 pub finished_objects-requires-clause-is_file : goal.finished_objects-requires-clause-is_file
@@ -90,129 +83,93 @@ finished_objects-requires-clause-is_file c =
     let bytes = c.args.bytes.now in
     let n : ℕ = c.loop-span.count + 1 in
     let st : State = state_of c.loop-span.state in
-    let line : List ℕ = slice_range bytes c.in-Some.span.first c.in-Some.span.end in
-    let more : List (List ℕ) = lines (drop c.in-Some.span.next bytes) in
-    let kept : is_kept (words line) ≡ true = sym c.is_kept.ensures ∙ c.if-is_kept.true in
-    let on = line_read c.args.latest st n (lines (drop c.loop-span.at bytes)) line more
-    (read_file c.args.latest at_version (kept_lines bytes)) c.in-Some.ensures.found.lines kept
-    c.loop-span.invariant.same in
-    let tail : List Kept = kept_from (n + 1) more in
+    let line = slice_range bytes c.in-Some.span.first c.in-Some.span.end in
+    let more = lines (drop c.in-Some.span.next bytes) in
+    let here = line_here c.args.latest bytes st n (lines (drop c.loop-span.at bytes)) line more
+    c.in-Some.ensures.found.lines (sym c.is_kept.ensures ∙ c.if-is_kept.true) c.loop-span.invariant.same
+    c.loop-span.invariant.passed in
     let taken = taken_ok n (judge c.args.latest st (words line)) c.take_line.new.state c.take_line.new.tally
     (c.in_ok-take_line.ensures.takes c.loop-span.invariant.tallied) in
-    let S : FileParts = held_file c.unwrap-version.result.0 c.unwrap-version.result.1 c.unwrap-version.result.2.items in
-    let at-end : judge c.args.latest st (words line) ≡ Ok (ended S) = taken.0
-    ∙ ap (λ s. Ok (state_of s)) (ended_is c.take_line.new.state c.ended_parts.result c.unwrap-version.result
-    c.ended_parts.ensures c.unwrap-version.ensures) in
-    let here = sym (ap (λ (r : Result State Breach). goes_on r n tail (λ next. read_file c.args.latest next tail))
-    at-end) ∙ on in
-    let whole : HasFile c.args.latest (kept_lines bytes) S tail =
-    ended_front c.args.latest (kept_lines bytes) (is_filled S) S tail
-    (subst (HoldsFile c.args.latest (kept_lines bytes)) (sym here) (file_holds c.args.latest (kept_lines bytes))) in
-    whole.is_file
+    (file_here here (judged_as (judge c.args.latest st (words line)) c.take_line.new.state c.ended_parts.result c.unwrap-version.result
+    taken.0 c.ended_parts.ensures c.unwrap-version.ensures)).is_file
 
 pub finished_objects-requires-clause-lawful : goal.finished_objects-requires-clause-lawful
 finished_objects-requires-clause-lawful c =
     let bytes = c.args.bytes.now in
     let n : ℕ = c.loop-span.count + 1 in
     let st : State = state_of c.loop-span.state in
-    let line : List ℕ = slice_range bytes c.in-Some.span.first c.in-Some.span.end in
-    let more : List (List ℕ) = lines (drop c.in-Some.span.next bytes) in
-    let kept : is_kept (words line) ≡ true = sym c.is_kept.ensures ∙ c.if-is_kept.true in
-    let on = line_read c.args.latest st n (lines (drop c.loop-span.at bytes)) line more
-    (read_file c.args.latest at_version (kept_lines bytes)) c.in-Some.ensures.found.lines kept
-    c.loop-span.invariant.same in
-    let tail : List Kept = kept_from (n + 1) more in
+    let line = slice_range bytes c.in-Some.span.first c.in-Some.span.end in
+    let more = lines (drop c.in-Some.span.next bytes) in
+    let here = line_here c.args.latest bytes st n (lines (drop c.loop-span.at bytes)) line more
+    c.in-Some.ensures.found.lines (sym c.is_kept.ensures ∙ c.if-is_kept.true) c.loop-span.invariant.same
+    c.loop-span.invariant.passed in
     let taken = taken_ok n (judge c.args.latest st (words line)) c.take_line.new.state c.take_line.new.tally
     (c.in_ok-take_line.ensures.takes c.loop-span.invariant.tallied) in
-    let S : FileParts = held_file c.unwrap-version.result.0 c.unwrap-version.result.1 c.unwrap-version.result.2.items in
-    let at-end : judge c.args.latest st (words line) ≡ Ok (ended S) = taken.0
-    ∙ ap (λ s. Ok (state_of s)) (ended_is c.take_line.new.state c.ended_parts.result c.unwrap-version.result
-    c.ended_parts.ensures c.unwrap-version.ensures) in
-    let here = sym (ap (λ (r : Result State Breach). goes_on r n tail (λ next. read_file c.args.latest next tail))
-    at-end) ∙ on in
-    let whole : HasFile c.args.latest (kept_lines bytes) S tail =
-    ended_front c.args.latest (kept_lines bytes) (is_filled S) S tail
-    (subst (HoldsFile c.args.latest (kept_lines bytes)) (sym here) (file_holds c.args.latest (kept_lines bytes))) in
-    whole.lawful
+    (file_here here (judged_as (judge c.args.latest st (words line)) c.take_line.new.state c.ended_parts.result c.unwrap-version.result
+    taken.0 c.ended_parts.ensures c.unwrap-version.ensures)).lawful
 
 pub returns-in_err-objects-clause-parses : goal.returns-in_err-objects-clause-parses
 returns-in_err-objects-clause-parses c =
     let bytes = c.args.bytes.now in
     let n : ℕ = c.loop-span.count + 1 in
     let st : State = state_of c.loop-span.state in
-    let line : List ℕ = slice_range bytes c.in-Some.span.first c.in-Some.span.end in
-    let more : List (List ℕ) = lines (drop c.in-Some.span.next bytes) in
-    let kept : is_kept (words line) ≡ true = sym c.is_kept.ensures ∙ c.if-is_kept.true in
-    let on = line_read c.args.latest st n (lines (drop c.loop-span.at bytes)) line more
-    (read_file c.args.latest at_version (kept_lines bytes)) c.in-Some.ensures.found.lines kept
-    c.loop-span.invariant.same in
-    let tail : List Kept = kept_from (n + 1) more in
+    let line = slice_range bytes c.in-Some.span.first c.in-Some.span.end in
+    let more = lines (drop c.in-Some.span.next bytes) in
+    let here = line_here c.args.latest bytes st n (lines (drop c.loop-span.at bytes)) line more
+    c.in-Some.ensures.found.lines (sym c.is_kept.ensures ∙ c.if-is_kept.true) c.loop-span.invariant.same
+    c.loop-span.invariant.passed in
     let taken = taken_ok n (judge c.args.latest st (words line)) c.take_line.new.state c.take_line.new.tally
     (c.in_ok-take_line.ensures.takes c.loop-span.invariant.tallied) in
     let S : FileParts = held_file c.unwrap-version.result.0 c.unwrap-version.result.1 c.unwrap-version.result.2.items in
-    let at-end : judge c.args.latest st (words line) ≡ Ok (ended S) = taken.0
-    ∙ ap (λ s. Ok (state_of s)) (ended_is c.take_line.new.state c.ended_parts.result c.unwrap-version.result
-    c.ended_parts.ensures c.unwrap-version.ensures) in
-    let here = sym (ap (λ (r : Result State Breach). goes_on r n tail (λ next. read_file c.args.latest next tail))
-    at-end) ∙ on in
+    let fault = c.in_err-objects.field-0.0 in
     let exit = err_from_is_err_and c.from_residual-in_err-objects.result c.from_residual-in_err-objects.ensures.1 in
-    let end : c.from_residual-in_err-objects.result ≡ Err c.in_err-objects.field-0.0 = exit.1
-    ∙ ap (λ (e : Fault). Err e) exit.2 in
+    let end : c.from_residual-in_err-objects.result ≡ Err fault = exit.1 ∙ ap (λ (e : Fault). Err e) exit.2 in
     subst (λ (r : Result ObjectsFront Fault).
     Parses bytes (read_file c.args.latest at_version (kept_lines bytes)) (objects_given r)) (sym end)
-    (subst (λ (a : AnswerOf FileParts). Parses bytes a (objects_given (Err c.in_err-objects.field-0.0))) here
-    (finished_err bytes S tail c.in_err-objects.field-0.0 c.in_err-objects.ensures))
+    (subst (λ (a : AnswerOf FileParts). Parses bytes a (objects_given (Err fault)))
+    (end_here here (judged_as (judge c.args.latest st (words line)) c.take_line.new.state c.ended_parts.result c.unwrap-version.result
+    taken.0 c.ended_parts.ensures c.unwrap-version.ensures))
+    (finished_err bytes S (kept_from (n + 1) more) fault c.in_err-objects.ensures))
 
 pub returns-in_err-objects-clause-memory : goal.returns-in_err-objects-clause-memory
 returns-in_err-objects-clause-memory c =
     let bytes = c.args.bytes.now in
     let n : ℕ = c.loop-span.count + 1 in
     let st : State = state_of c.loop-span.state in
-    let line : List ℕ = slice_range bytes c.in-Some.span.first c.in-Some.span.end in
-    let more : List (List ℕ) = lines (drop c.in-Some.span.next bytes) in
-    let kept : is_kept (words line) ≡ true = sym c.is_kept.ensures ∙ c.if-is_kept.true in
-    let tail : List Kept = kept_from (n + 1) more in
-    let passed = kept_next c.args.latest (kept_lines bytes) n line (lines (drop c.loop-span.at bytes)) more st
-    c.in-Some.ensures.found.lines kept c.loop-span.invariant.passed in
+    let line = slice_range bytes c.in-Some.span.first c.in-Some.span.end in
+    let more = lines (drop c.in-Some.span.next bytes) in
+    let here = line_here c.args.latest bytes st n (lines (drop c.loop-span.at bytes)) line more
+    c.in-Some.ensures.found.lines (sym c.is_kept.ensures ∙ c.if-is_kept.true) c.loop-span.invariant.same
+    c.loop-span.invariant.passed in
     let taken = taken_ok n (judge c.args.latest st (words line)) c.take_line.new.state c.take_line.new.tally
     (c.in_ok-take_line.ensures.takes c.loop-span.invariant.tallied) in
-    let S : FileParts = held_file c.unwrap-version.result.0 c.unwrap-version.result.1 c.unwrap-version.result.2.items in
-    let at-end : judge c.args.latest st (words line) ≡ Ok (ended S) = taken.0
-    ∙ ap (λ s. Ok (state_of s)) (ended_is c.take_line.new.state c.ended_parts.result c.unwrap-version.result
-    c.ended_parts.ensures c.unwrap-version.ensures) in
+    let fault = c.in_err-objects.field-0.0 in
     let exit = err_from_is_err_and c.from_residual-in_err-objects.result c.from_residual-in_err-objects.ensures.1 in
-    let end : c.from_residual-in_err-objects.result ≡ Err c.in_err-objects.field-0.0 = exit.1
-    ∙ ap (λ (e : Fault). Err e) exit.2 in
+    let end : c.from_residual-in_err-objects.result ≡ Err fault = exit.1 ∙ ap (λ (e : Fault). Err e) exit.2 in
     subst (λ (r : Result ObjectsFront Fault). IfErr r (IsReadMemory c.args.latest bytes)) (sym end)
-    (end_memory c.args.latest bytes tail S c.in_err-objects.field-0.0
-    (pass_one c.args.latest (kept_lines bytes) tail (n, words line) st (ended S) at-end passed))
+    (end_memory c.args.latest bytes _ _ fault
+    (pass_one c.args.latest _ _ _ _ _ (judged_as (judge c.args.latest st (words line)) c.take_line.new.state c.ended_parts.result c.unwrap-version.result
+    taken.0 c.ended_parts.ensures c.unwrap-version.ensures) here.passed))
 
 pub returns-then-is_ended-clause-parses : goal.returns-then-is_ended-clause-parses
 returns-then-is_ended-clause-parses c =
     let bytes = c.args.bytes.now in
     let n : ℕ = c.loop-span.count + 1 in
     let st : State = state_of c.loop-span.state in
-    let line : List ℕ = slice_range bytes c.in-Some.span.first c.in-Some.span.end in
-    let more : List (List ℕ) = lines (drop c.in-Some.span.next bytes) in
-    let kept : is_kept (words line) ≡ true = sym c.is_kept.ensures ∙ c.if-is_kept.true in
-    let on = line_read c.args.latest st n (lines (drop c.loop-span.at bytes)) line more
-    (read_file c.args.latest at_version (kept_lines bytes)) c.in-Some.ensures.found.lines kept
-    c.loop-span.invariant.same in
-    let tail : List Kept = kept_from (n + 1) more in
+    let line = slice_range bytes c.in-Some.span.first c.in-Some.span.end in
+    let more = lines (drop c.in-Some.span.next bytes) in
+    let here = line_here c.args.latest bytes st n (lines (drop c.loop-span.at bytes)) line more
+    c.in-Some.ensures.found.lines (sym c.is_kept.ensures ∙ c.if-is_kept.true) c.loop-span.invariant.same
+    c.loop-span.invariant.passed in
     let taken = taken_ok n (judge c.args.latest st (words line)) c.take_line.new.state c.take_line.new.tally
     (c.in_ok-take_line.ensures.takes c.loop-span.invariant.tallied) in
-    let S : FileParts = held_file c.unwrap-version.result.0 c.unwrap-version.result.1 c.unwrap-version.result.2.items in
-    let at-end : judge c.args.latest st (words line) ≡ Ok (ended S) = taken.0
-    ∙ ap (λ s. Ok (state_of s)) (ended_is c.take_line.new.state c.ended_parts.result c.unwrap-version.result
-    c.ended_parts.ensures c.unwrap-version.ensures) in
-    let here = sym (ap (λ (r : Result State Breach). goes_on r n tail (λ next. read_file c.args.latest next tail))
-    at-end) ∙ on in
+    let at-end = judged_as (judge c.args.latest st (words line)) c.take_line.new.state c.ended_parts.result c.unwrap-version.result
+    taken.0 c.ended_parts.ensures c.unwrap-version.ensures in
     let front : ObjectsFront = record { objects = c.in_ok-objects.objects; used = c.in-Some.span.next; lines = n } in
     let used = used_to c.args.latest st bytes c.loop-span.count c.loop-span.at c.in-Some.span.next line
     c.in-Some.ensures.found.takes_bytes.1
     (omega (arith, c.loop-span.invariant.counted, c.in-Some.ensures.found.takes_bytes.0))
-    c.loop-span.invariant.behind c.in-Some.ensures.found.rest (end_line_is c.args.latest st (words line) S at-end)
-    (kept_next c.args.latest (kept_lines bytes) n line (lines (drop c.loop-span.at bytes)) more st
-    c.in-Some.ensures.found.lines kept c.loop-span.invariant.passed) in
-    subst (λ (a : AnswerOf FileParts). Parses bytes a (objects_given (Ok front))) here
-    (finished_ok bytes front S tail c.in_ok-objects.ensures used refl)
+    c.loop-span.invariant.behind c.in-Some.ensures.found.rest
+    (end_line_is c.args.latest st (words line) _ at-end) here.passed in
+    subst (λ (a : AnswerOf FileParts). Parses bytes a (objects_given (Ok front))) (end_here here at-end)
+    (finished_ok bytes front _ _ c.in_ok-objects.ensures used refl)

@@ -1,4 +1,4 @@
-use Rattle.std.proofs.Common.{◌+◌, ◌*◌, ◌++◌, List, length, map, sum_by, ℤ, pos, ◌+ℤ◌, ◌≤ℤ◌, sym, ap, ◌∙◌, arith, subst, All, to_z}
+use Rattle.std.proofs.Common.{◌+◌, ◌*◌, ◌++◌, List, length, map, sum_by, ℕ, ℤ, pos, ◌+ℤ◌, ◌≤ℤ◌, sym, ap, ◌∙◌, arith, subst, All, to_z}
 use mir.Syntax.{w128}
 use Rattle.std.specs.List.{AllByRecursion}
 use Rattle.std.proofs.lemmas.Int.{ints}
@@ -11,7 +11,7 @@ use Rattle.triangle_meshes.specs.Joined.{joined}
 use Rattle.surface_core.specs.declared.surfaces.Built.{Built}
 use Rattle.surface_core.specs.Objects.{objects_in, surfaces_of, pair_cost_limit}
 use Rattle.surface_core.proofs.ObjectFacts.{few_objects}
-use Rattle.surface_core.proofs.JoinedSizes.{IsCheap, are_bounded, joined_valid, sum_next, cost_next, meshes_next, none_left, few_added, folded_added, cost_added}
+use Rattle.surface_core.proofs.JoinedSizes.{IsCheap, are_bounded, joined_valid, sum_next, cost_next, meshes_next, none_left, few_added, folded_added, cost_added, sum_ended, cost_ended}
 use Rattle.surface_core.proofs.objects.join_several.Goals as goal
 
 pub loop-built-init : goal.loop-built-init
@@ -144,3 +144,30 @@ returns-clause-closed c =
     c.loop-built.invariant.left c.in-None.ensures.steps.0 c.loop-built.invariant.meshes in
     c.in_ok-mesh.ensures.closed (subst (λ (ss : List Surface). All (λ s. All IsClosed s.parts) ss) (sym same)
     c.requires.closed)
+
+pub join_meshes-requires-clause-each : goal.join_meshes-requires-clause-each
+join_meshes-requires-clause-each c =
+    let left = c.loop-built.built-iterator.rest in
+    let same = ap (map surface_of) c.deref.ensures.value
+    ∙ none_left c.loop-built.meshes.items left.items left.len (surfaces_of c.args.each.items)
+    c.loop-built.invariant.left c.in-None.ensures.steps.0 c.loop-built.invariant.meshes in
+    subst (λ (ss : List Surface). All IsValid ss) (sym same) c.requires.valid
+
+pub returns-clause-joined : goal.returns-clause-joined
+returns-clause-joined c =
+    let left = c.loop-built.built-iterator.rest in
+    let was = c.loop-built.invariant in
+    let none = c.in-None.ensures.steps.0 in
+    let each = c.args.each.items in
+    let same = ap (map surface_of) c.deref.ensures.value
+    ∙ none_left c.loop-built.meshes.items left.items left.len (surfaces_of each) was.left none was.meshes in
+    let pairs : Built → ℕ = λ b. b.pairs in
+    let folded : Built → ℕ = λ b. b.folded in
+    let cost : Built → ℤ = λ b. b.cost in
+    record {
+      mesh = c.in_ok-mesh.ensures.joined ∙ ap joined same;
+      pairs = sum_ended pairs left.items left.len c.loop-built.pairs (sum_by pairs each) was.left none was.pairs;
+      cost = cost_ended cost left.items left.len (to_z w128 c.loop-built.cost-bits) (signed_sum cost each) was.left
+          none was.cost;
+      folded = sum_ended folded left.items left.len c.loop-built.folded (sum_by folded each) was.left none was.folded;
+    }
