@@ -13,14 +13,8 @@ use Rattle.section_core.specs.ValidSections.{section_of}
 use Rattle.section_pairs.specs.declared.gap_pairs.GapPair.{GapPair}
 use Rattle.section_pairs.specs.Pairs.{PairParts, pair_parts}
 use Rattle.section_pairs.specs.SectionFaults.{ArePairs, AreSound, OrNoMemory}
-use Rattle.surface_core.specs.Objects.{AreAllPairs, IsFoundIn, IsLateMemoryIn, numbered, objects_in, pair_lists, sections_in}
-use Rattle.surface_core.proofs.ObjectSteps.{zip_at}
+use Rattle.surface_core.specs.Objects.{AreAllPairs, IsFoundIn, IsLateMemoryIn, numbered, pair_lists}
 use Rattle.command_replies.specs.Stages.{AreSeveral, found}
-
--- a list of one item has it last
-only_item : {A : Type 0} (rest : List A) (xs : List A) (x : A) → length xs ≤ 1 → xs ≡ rest ++ x ∷ [] → xs ≡ x ∷ []
-only_item [] xs x l e = e
-only_item (y ∷ rest) xs x l e = absurd (omega (arith, l, ap length e, length-append (y ∷ rest) (x ∷ [])))
 
 -- for several objects, the fault is found
 pub several_found : (F : FileParts) (fault : Fault) → 1 < length F.objects → OrNoMemory (IsFoundIn F) fault
@@ -88,11 +82,3 @@ lists_next lists i v l k =
     (drop_next (pair_lists lists) i (held v) (omega (arith, l, length-map lists held)) (list_at lists i v l k))
     ∙ length-append (held v) (numbered rest)
     ∙ ap (λ (n : ℕ). n + length (numbered rest)) (length-map v.items pair_parts)
-
--- these pairs are those of its sections
-pub pairs_at : (F : FileParts) (items : List Object) (lists : List (Vec GapPair Global)) (i : ℕ) (o : Object)
-    (v : Vec GapPair Global) → sections_in items ≡ objects_in F → AreAllPairs F (pair_lists lists)
-    → i < length items → o ≡ get_or items i o → v ≡ get_or lists i v → ArePairs o.sections (map pair_parts v.items)
-pairs_at F items lists i o v e pairs l k n =
-    zip_at (λ (p : Object). p.sections) (λ (w : Vec GapPair Global). map pair_parts w.items) ArePairs items lists
-    (subst (λ (Ss : List Parts). AllZip ArePairs Ss (pair_lists lists)) (sym e) pairs) i o v l k n

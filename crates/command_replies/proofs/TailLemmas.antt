@@ -1,12 +1,11 @@
 -- The front of a text, and what follows it.
-use Rattle.std.proofs.Common.{◌≡◌, inl, inr, ℕ, ◌+◌, List, [], ◌∷◌, drop, Some, refl, subst, ap}
+use Rattle.std.proofs.Common.{◌≡◌, inl, inr, ℕ, ◌+◌, List, [], ◌∷◌, drop, Some, refl, ap}
 use Rattle.text_io.specs.Text.{lines, kept_from}
 use Rattle.text_io.specs.WordLists.{Line, Kept, first_number}
 use Rattle.fku_types.specs.declared.fault.Fault.{Fault}
 use Rattle.fku_types.specs.declared.fault.Fault.TheVariants.{Form, NoMemory}
 use Rattle.section_text.specs.Fronts.{IsObjectsFaultOf, IsObjectsFrontOf}
-use Rattle.section_core.specs.Reading.{HasFile, HasFileFault}
-use Rattle.section_core.specs.Texts.{IsTextOfFile}
+use Rattle.section_core.specs.Reading.{HasFileFault}
 use Rattle.section_core.specs.declared.parts.Version.TheVariants.{Two}
 use Rattle.text_io.specs.Text.{kept_lines}
 use Rattle.std.proofs.Common.{Result, Vec}
@@ -32,11 +31,6 @@ pub front_fault : (text : List ℕ) (f : Fault) → IsObjectsFaultOf text f
     → OrNoMemory (HasFileFault Two (kept_lines text)) f
 front_fault text NoMemory h = inl refl
 front_fault text f h = inr h
-
--- nothing follows the front
-pub is_text : (text : List ℕ) (f : ObjectsFront) → IsObjectsFrontOf text f
-    → kept_from (f.lines + 1) (lines (drop f.used text)) ≡ [] → IsTextOfFile text f.objects
-is_text text f is none = (subst (HasFile Two (kept_lines text) f.objects) none is.front, is.filled)
 
 -- a kept line follows the front
 pub has_tail : (text : List ℕ) (f : ObjectsFront) (n : ℕ) → IsObjectsFrontOf text f

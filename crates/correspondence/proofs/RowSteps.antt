@@ -1,11 +1,8 @@
 -- Rows, cell by cell and row by row.
-use Rattle.std.proofs.Common.{◌≡◌, ◌↔◌, ℕ, ◌+◌, ◌<◌, Bool, true, false, List, [], ◌∷◌, ◌++◌, length, get_or, refl, sym, ap, ◌∙◌, subst, arith, inl, inr}
+use Rattle.std.proofs.Common.{◌≡◌, ◌↔◌, ℕ, ◌+◌, ◌<◌, Bool, true, false, List, [], ◌∷◌, ◌++◌, length, get_or, sym, ap, ◌∙◌, subst, arith, inl, inr}
 use Rattle.std.proofs.lemmas.Bool.{cases_eq}
 use Rattle.std.proofs.lemmas.List.{length-append, get_or_append_left, get_or_at}
 use Rattle.correspondence.specs.Graphs.{mark, cell, IsRow, AreRows}
-
-pub row_none : (P : ℕ → Type 0) → IsRow [] 0 P
-row_none P = record { columns = refl; cells = λ j h. absurd (omega arith) }
 
 pub row_push : (row : List Bool) (j : ℕ) (b : Bool) (P : ℕ → Type 0) → IsRow row j P → (b ≡ true) ↔ P j
     → IsRow (row ++ b ∷ []) (j + 1) P

@@ -7,11 +7,6 @@ pub err_is : {T E : Type 0} (P : E → Type 0) (r : Result T E) (e : E) → IsEr
 err_is P (Ok x) e h k = tt
 err_is P (Err f) e h k = subst P (sym h) k
 
--- the same where e is the only error that can come
-pub err_only : {T E : Type 0} (P : E → Type 0) (r : Result T E) (e : E) → IfErr r (λ f. f ≡ e) → P e → IfErr r P
-err_only P (Ok x) e h k = tt
-err_only P (Err f) e h k = subst P (sym h) k
-
 -- what follows from the value of a result
 pub on_ok : {T E : Type 0} (P Q : Type 0) (r : Result T E) → (P → Q) → OnOk r P → OnOk r Q
 on_ok P Q (Ok x) f h = f h

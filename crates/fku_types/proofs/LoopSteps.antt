@@ -3,18 +3,31 @@ use Rattle.std.proofs.Common.{◌≡◌, ◌+◌, ◌<◌, ◌≤◌, ◌++◌, 
 use Rattle.std.specs.List.{flat_map}
 use Rattle.std.proofs.lemmas.Bool.{cases_lt}
 use Rattle.std.proofs.lemmas.Grind.{common_steps}
-use Rattle.std.proofs.lemmas.List.{map-append, take_all, get_or_append_left, get_or_push}
+use Rattle.std.proofs.lemmas.List.{map-append, take_all, take_more, get_or_append_left, get_or_push}
 use Rattle.fku_types.proofs.ListLaws.{take_next}
 
-pub put_next : {X : Type 0} (t : X → List ℕ) (xs : List X) (i : ℕ) (x : X) (start was now : List ℕ) → i < length xs
+-- what is put for each item, one after the other
+pub put_next : {X Y : Type 0} (t : X → List Y) (xs : List X) (i : ℕ) (x : X) (start was now : List Y) → i < length xs
     → x ≡ get_or xs i x → was ≡ start ++ flat_map t (take i xs) → now ≡ was ++ t x
     → now ≡ start ++ flat_map t (take (i + 1) xs)
 put_next t xs i x start was now lt is so e = grind (arith, common_steps)
 
-pub put_all : {X : Type 0} (t : X → List ℕ) (xs : List X) (i : ℕ) (start was : List ℕ) → length xs ≤ i
+pub put_all : {X Y : Type 0} (t : X → List Y) (xs : List X) (i : ℕ) (start was : List Y) → length xs ≤ i
     → was ≡ start ++ flat_map t (take i xs) → was ≡ start ++ flat_map t xs
-put_all t xs i start was le so = grind (arith, common_steps)
+put_all {X = X} t xs i start was le so = so ∙ ap (λ (ys : List X). start ++ flat_map t ys) (take_all i xs le)
 
+-- the images of the items
+pub mapped_next : {X Y : Type 0} (f : X → Y) (xs : List X) (i : ℕ) (d : X) (y : Y) (was now : List Y) → i < length xs
+    → was ≡ map f (take i xs) → y ≡ f (get_or xs i d) → now ≡ was ++ y ∷ [] → now ≡ map f (take (i + 1) xs)
+mapped_next {Y = Y} f xs i d y was now lt so here e =
+    e ∙ ap₂ (λ (ys : List Y) (z : Y). ys ++ z ∷ []) so here
+    ∙ sym (ap (map f) (take_more xs i d lt) ∙ map-append f (take i xs) (get_or xs i d ∷ []))
+
+pub mapped_all : {X Y : Type 0} (f : X → Y) (xs : List X) (i : ℕ) (was : List Y) → length xs ≤ i
+    → was ≡ map f (take i xs) → was ≡ map f xs
+mapped_all f xs i was le so = so ∙ ap (map f) (take_all i xs le)
+
+-- copies, whose view is that of the items
 pub copied_next : {X Y : Type 0} (f : X → Y) (xs : List X) (i : ℕ) (x y : X) (was now : List X) → i < length xs
     → x ≡ get_or xs i x → map f was ≡ map f (take i xs) → f y ≡ f x → now ≡ was ++ (y ∷ [])
     → map f now ≡ map f (take (i + 1) xs)

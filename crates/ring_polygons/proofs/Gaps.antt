@@ -48,9 +48,6 @@ up_same p i j = elim (cases_eq i j) [
 pub up_below : (n p i : ℕ) → i < n - 1 → up p i < n
 up_below n p i l = elim (up_is p i) [ inl h ↦ omega (arith, h.1) | inr h ↦ omega (arith, h.1) ]
 
-pub up_other : (p i : ℕ) → up p i ≢ p
-up_other p i e = elim (up_is p i) [ inl h ↦ omega (arith, h.0, h.1, e) | inr h ↦ omega (arith, h.0, h.1, e) ]
-
 -- another place is moved and found again
 pub up_moved : (p k : ℕ) → k ≢ p → up p (moved_place p k) ≡ k
 up_moved p k ne = elim (cases_lt p k) [

@@ -91,27 +91,3 @@ pub record LeastSoFar (nears : List Near) (n c : ℕ) : Type 0 where
       → (near_at nears c).place ≤ (near_at nears k).place
   pub first : (k : ℕ) → k < n → (near_at nears k).square ≡ (near_at nears c).square
       → (near_at nears k).place ≡ (near_at nears c).place → c ≤ k
-
-pub first_kept : (nears : List Near) (n c : ℕ) → LeastSoFar nears n c
-    → (near_at nears c).square ≤ (near_at nears n).square
-    → ((near_at nears n).square ≡ (near_at nears c).square → (near_at nears c).place ≤ (near_at nears n).place)
-    → LeastSoFar nears (n + 1) c
-first_kept nears n c h le tie = record {
-  before = omega (arith, h.before);
-  there = h.there;
-  least = λ k b. elim (cases_lt k n) [
-    | inl lt ↦ h.least k lt
-    | inr ge ↦ omega
-        (arith, ap (λ (i : ℕ). (near_at nears i).square) (let z : k ≡ n = omega arith in z))
-  ];
-  place = λ k b e. elim (cases_lt k n) [
-    | inl lt ↦ h.place k lt e
-    | inr ge ↦ (let z : k ≡ n = omega arith in
-        omega (
-          arith,
-          tie (sym (ap (λ (i : ℕ). (near_at nears i).square) z) ∙ e),
-          ap (λ (i : ℕ). (near_at nears i).place) z,
-        ))
-  ];
-  first = λ k b e f. elim (cases_lt k n) [ inl lt ↦ h.first k lt e f | inr ge ↦ omega (arith, h.before) ];
-}

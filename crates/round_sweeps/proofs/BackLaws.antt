@@ -376,18 +376,6 @@ way_joined q m front column rest e l k le =
     ∙ get_or-append-add front (column ++ rest) k false
     ∙ get_or_append_left column rest false k (omega (arith, l, le))
 
-pub way_after : (front column column' rest : List Bool) → length column' ≡ length column → (k : ℕ)
-    → length front + length column ≤ k → way_of (front ++ (column' ++ rest)) k ≡ way_of (front ++ (column ++ rest)) k
-way_after front column column' rest l k le =
-    let j : ℕ = k - length front - length column in
-    let e : k ≡ length front + (length column + j) = omega (arith, le) in
-    let e' : length front + (length column + j) ≡ length front + (length column' + j) = omega (arith, l) in
-    let new = get_or-append-add front (column' ++ rest) (length column' + j) false
-    ∙ get_or-append-add column' rest j false in
-    let old = get_or-append-add front (column ++ rest) (length column + j) false
-    ∙ get_or-append-add column rest j false in
-    ap (way_of (front ++ (column' ++ rest))) (e ∙ e') ∙ new ∙ sym (ap (way_of (front ++ (column ++ rest))) e ∙ old)
-
 -- the same where the row is written in another way
 pub back_more_at : (m k row : ℕ) (limit : ℤ) (phi downs rights : ℕ → ℤ) (old new : List ℤ) (ways : List Bool)
     (below sum : ℤ) (way : Bool) (first last first' last' : ℕ) → k ≡ row + 1

@@ -1,6 +1,6 @@
 -- A search back from the ends of many turns bounds the turns.
 use Rattle.std.proofs.Common.{◌≡◌, ℕ, ◌+◌, ◌-◌, ◌*◌, ◌%◌, ◌<◌, ◌≤◌, ◌^◌, ℤ, pos, neg_ℤ, ◌+ℤ◌, ◌-ℤ◌, ◌≤ℤ◌, List, Bool, [], ◌∷◌, length, replicate, set, take, drop, get_or-take, get_or-drop, unsigned_abs, refl, ap, sym, subst, to_z, of_z, w64, ◌∙◌, arith, inl, inr}
-use Rattle.std.proofs.lemmas.Bool.{cases_lt, cases_eq}
+use Rattle.std.proofs.lemmas.Bool.{cases_lt}
 use Rattle.std.proofs.lemmas.Int.{ints, by_lt_z}
 use Rattle.std.proofs.lemmas.List.{length-replicate, get_or-replicate}
 use Rattle.strip_graph.specs.declared.tilings.Step.{Step}
@@ -13,7 +13,7 @@ use Rattle.round_sweeps.specs.Columns.{at_row, table_at, AreRowsBounded, AreColu
 use Rattle.round_sweeps.specs.Tables.{IsTable, AreFitBounds}
 use Rattle.round_sweeps.specs.Searches.{gone, AreSumsOf, numbers_from, downs_from, rights_from, IsBackColumn}
 use Rattle.round_sweeps.specs.Bands.{IsBand, ended_cost}
-use Rattle.round_sweeps.proofs.ColumnLaws.{zeroth, written, kept, replaced}
+use Rattle.round_sweeps.proofs.ColumnLaws.{zeroth, replaced}
 use Rattle.round_sweeps.proofs.OfColumnLaws.{of_column, rights_at, bounded_take, column_at}
 use Rattle.round_sweeps.proofs.RoundLaws.{ring_low, ring_high}
 use Rattle.round_sweeps.proofs.TraceLaws.{AreOfColumn}
@@ -206,10 +206,6 @@ first_bounded m table b = record {
 
 pub lower_than : (x : ℤ) → pos 0 ≤ℤ x → neg_ℤ (pos (2 ^ 63)) ≤ℤ x
 lower_than x h = omega (arith, ints, h)
-
--- the search of a band has as many numbers
-pub sums_at : (m count : ℕ) (xs : List ℤ) → count ≡ m → AreSumsOf (2 * m - 1) xs → AreSumsOf (2 * count - 1) xs
-sums_at m count xs e s = subst (λ (x : ℕ). AreSumsOf (2 * x - 1) xs) (sym e) s
 
 -- no cast changes a difference that is in range
 pub gap_is : (a b c : ℤ) → b ≤ℤ a → pos 0 ≤ℤ b → a ≤ℤ c → c ≤ℤ gone → to_z w64 (of_z w64 (a -ℤ b)) ≡ a -ℤ b

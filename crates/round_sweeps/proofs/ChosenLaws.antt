@@ -1,6 +1,5 @@
 -- Two sweeps and a search give the chosen tiling.
-use Rattle.std.proofs.Common.{◌≡◌, ◌∙◌, ℕ, ◌+◌, ◌*◌, ◌<◌, ℤ, pos, ◌+ℤ◌, ◌≤ℤ◌, ◌<ℤ◌, List, Bool, ◌++◌, length, ap, sym, subst, arith, inl, inr}
-use Rattle.std.proofs.lemmas.Bool.{cases_lt}
+use Rattle.std.proofs.Common.{◌≡◌, ◌∙◌, ℕ, ◌+◌, ◌*◌, ◌<◌, ℤ, pos, ◌+ℤ◌, ◌≤ℤ◌, ◌<ℤ◌, List, Bool, ◌++◌, length, ap, sym, subst, arith}
 use Rattle.std.proofs.lemmas.Int.{ints}
 use Rattle.std.proofs.lemmas.List.{get_or_append_left}
 use Rattle.strip_graph.specs.declared.tilings.Step.{Step}
@@ -11,7 +10,7 @@ use Rattle.strip_graph.specs.Feasible.{IsRowPeriodic, IsForward, IsForwardRound,
 use Rattle.strip_graph.proofs.WordLaws.{Periodic}
 use Rattle.strip_graph.proofs.FeasibleLaws.{first_turn_of_bounds, chosen_of_turn}
 use Rattle.strip_graph.proofs.FeasibleRounds.{forward_of_round}
-use Rattle.round_sweeps.specs.Columns.{at_row, table_at, IsFirstLeastAmong}
+use Rattle.round_sweeps.specs.Columns.{at_row, table_at}
 use Rattle.round_sweeps.specs.Searched.{spell, guarded}
 use Rattle.round_sweeps.specs.Searches.{way_at, IsMet}
 use Rattle.round_sweeps.specs.Starts.{AreStarts}
@@ -55,33 +54,3 @@ starts_joined rates s column rest e h = record {
   where
     left : (r : ℕ) → r < length rates → at_row (column ++ rest) r ≡ at_row column r
     left r lt = get_or_append_left column rest (pos 0) r (omega (arith, lt, e))
-
--- the first of the least numbers, one more at a time
-pub least_none : (xs : List ℤ) → IsFirstLeastAmong 1 0 xs
-least_none xs = record {
-  within = omega arith;
-  least = λ k lt. (let e : k ≡ 0 = omega (arith, lt) in omega (arith, ints, ap (at_row xs) e));
-  first = λ k lt. absurd (omega (arith, lt));
-}
-
-pub least_new : (row best : ℕ) (xs : List ℤ) → IsFirstLeastAmong row best xs → at_row xs row <ℤ at_row xs best
-    → IsFirstLeastAmong (row + 1) row xs
-least_new row best xs h lt = record {
-  within = omega arith;
-  least = λ k p. elim (cases_lt k row) [
-    | inl less ↦ omega (arith, ints, h.least k less, lt)
-    | inr more ↦ (let e : k ≡ row = omega (arith, p, more) in omega (arith, ints, ap (at_row xs) e))
-  ];
-  first = λ k p. omega (arith, ints, h.least k p, lt);
-}
-
-pub least_old : (row best : ℕ) (xs : List ℤ) → IsFirstLeastAmong row best xs → at_row xs best ≤ℤ at_row xs row
-    → IsFirstLeastAmong (row + 1) best xs
-least_old row best xs h le = record {
-  within = omega (arith, h.within);
-  least = λ k p. elim (cases_lt k row) [
-    | inl less ↦ h.least k less
-    | inr more ↦ (let e : k ≡ row = omega (arith, p, more) in omega (arith, ints, ap (at_row xs) e, le))
-  ];
-  first = h.first;
-}

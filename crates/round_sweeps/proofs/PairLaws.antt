@@ -11,8 +11,8 @@ use Rattle.strip_graph.specs.Strips.{Strip, IsStrip, arcs, rows, cols, rule_cost
 use Rattle.strip_graph.specs.declared.tilings.Step.{Step}
 use Rattle.strip_graph.specs.Feasible.{IsRowPeriodic}
 use Rattle.strip_graph.proofs.Around.{around-mod, arcs-periodic}
-use Rattle.round_sweeps.specs.Columns.{at_row, AreColumnCosts}
-use Rattle.round_sweeps.specs.Planes.{ArePlanar, AreSpans, span_at, span_arcs}
+use Rattle.round_sweeps.specs.Columns.{at_row}
+use Rattle.round_sweeps.specs.Planes.{ArePlanar, AreSpans, span_at}
 
 -- the squared span of a place
 pub place_cost : (low high : List Point) (xs ys us vs : List ℤ) (rise : ℤ) (n r c : ℕ) → 0 < length low
@@ -60,18 +60,6 @@ spans_of p xs ys us vs rise strip rule l t h g is = record {
   where
     some : 0 < length p.low
     some = omega (arith, strip.low.enough)
-
--- its columns
-pub pair_columns : (p : Strip) (xs ys us vs : List ℤ) (rise : ℤ) (c : ℕ) (downs rights : ℕ → ℤ)
-    → AreSpans p xs ys us vs rise → c ≤ cols p → AreColumnCosts (span_arcs xs ys us vs rise) (length xs) c downs rights
-    → AreColumnCosts (arcs p) (rows p) c downs rights
-pair_columns p xs ys us vs rise c downs rights s le h = record {
-  down = λ r lt. h.down r (omega (arith, lt, s.row_count)) ∙ ap pos (sym (s.down r c (omega (arith, lt)) le));
-  round = λ r e. h.round r (omega (arith, e, s.row_count)) ∙ ap pos (sym (s.down r c (omega (arith, e)) le));
-  right = λ r k lt e. h.right r k (omega (arith, lt, s.row_count)) e
-      ∙ ap pos (sym (s.right r k lt (omega (arith, e, le))));
-  small = λ r lt. h.small r (omega (arith, lt, s.row_count));
-}
 
 -- coordinates under other names
 planar_same : (ring ring' : List Point) (k k' : ℕ) (xs ys xs' ys' : List ℤ) → ring ≡ ring' → k ≡ k' → xs' ≡ xs

@@ -1,20 +1,16 @@
 -- Rates, row by row.
-use Rattle.std.proofs.Common.{◌≡◌, ℕ, ◌+◌, ◌<◌, ◌≤◌, ℤ, pos, ◌≤ℤ◌, List, length, length-set, set, ap, ◌∙◌, arith, inl, inr}
-use Rattle.std.proofs.lemmas.Bool.{cases_eq}
+use Rattle.std.proofs.Common.{◌≡◌, ℕ, ◌+◌, ◌<◌, ◌≤◌, ℤ, pos, ◌≤ℤ◌, List, length, length-set, set, ap, ◌∙◌, arith}
 use Rattle.std.proofs.lemmas.Int.{ints}
 use Rattle.fku_types.proofs.ListLaws.{set_more}
 use Rattle.round_sweeps.specs.Columns.{cost_limit, at_row}
 use Rattle.round_sweeps.specs.Starts.{AreRates}
-use Rattle.round_sweeps.proofs.ColumnLaws.{written, kept, replaced}
+use Rattle.round_sweeps.proofs.ColumnLaws.{replaced}
 
 -- rates of rows that are at most those of a list
 pub record AreLowered (old new : List ℤ) : Type 0 where
   pub count : length new ≡ length old
   pub rates : AreRates new
   pub lower : (r : ℕ) → r < length old → at_row new r ≤ℤ at_row old r
-
-pub lowered_none : (old : List ℤ) → AreRates old → AreLowered old old
-lowered_none old h = record { count = omega arith; rates = h; lower = λ r lt. omega (arith, ints) }
 
 pub lowered_more : (old new : List ℤ) (row : ℕ) (cost : ℤ) → AreLowered old new → row < length old → pos 0 ≤ℤ cost
     → cost ≤ℤ at_row new row → AreLowered old (set new row cost)
@@ -33,14 +29,6 @@ lowered_more old new row cost h lt least less = record {
   where
     within : row < length new
     within = omega (arith, lt, h.count)
-
-pub lowered_again : (old mid new : List ℤ) → AreLowered old mid → AreRates new → length new ≡ length mid
-    → ((r : ℕ) → r < length mid → at_row new r ≤ℤ at_row mid r) → AreLowered old new
-lowered_again old mid new h rates len lower = record {
-  count = len ∙ h.count;
-  rates = rates;
-  lower = λ r lt. omega (arith, ints, h.lower r lt, lower r (omega (arith, lt, h.count)));
-}
 
 -- the first rows have their costs
 pub record AreFirstRates (row : ℕ) (downs : ℕ → ℤ) (new : List ℤ) : Type 0 where

@@ -45,7 +45,3 @@ ring_low m r lt = let e : r ≡ 0 * m + r = omega arith in ap (λ (x : ℕ). x %
 pub ring_high : (m r : ℕ) → m ≤ r → r < 2 * m → r % m ≡ r - m
 ring_high m r ge lt = let e : r ≡ 1 * m + (r - m) = omega (arith, ge) in ap (λ (x : ℕ). x % m) e
     ∙ mod-mul-add 1 m (r - m) (omega (arith, ge, lt))
-
-pub ring_higher : (m r : ℕ) → 2 * m ≤ r → r < 3 * m → r % m ≡ r - 2 * m
-ring_higher m r ge lt = let e : r ≡ 2 * m + (r - 2 * m) = omega (arith, ge) in ap (λ (x : ℕ). x % m) e
-    ∙ mod-mul-add 2 m (r - 2 * m) (omega (arith, ge, lt))

@@ -1,5 +1,5 @@
 -- The ends of rings, one more at a time, and what they say of a pair's steps.
-use Rattle.std.proofs.Common.{◌≡◌, ℕ, ◌+◌, ◌-◌, ◌*◌, ◌%◌, ◌<◌, ◌≤◌, ◌^◌, Bool, true, false, ℤ, pos, ◌-ℤ◌, unsigned_abs, List, [], ◌∷◌, ◌++◌, length, length-append, get_or, slice_index_or, inl, inr, ap, ap₂, sym, subst, subst₂, ◌∙◌, refl, arith, mul-le-mul, mod-eq_of_lt, mod-lt}
+use Rattle.std.proofs.Common.{◌≡◌, ℕ, ◌+◌, ◌-◌, ◌*◌, ◌%◌, ◌<◌, ◌≤◌, ◌^◌, Bool, ℤ, pos, ◌-ℤ◌, List, [], ◌∷◌, ◌++◌, length, length-append, get_or, slice_index_or, inl, inr, ap, ap₂, sym, subst, subst₂, ◌∙◌, refl, arith, mul-le-mul, mod-eq_of_lt, mod-lt}
 use Rattle.std.proofs.Math.Nat.{add-mod_right, mod-add-mod}
 use Rattle.std.proofs.lemmas.Int.{ints}
 use Rattle.std.proofs.lemmas.Bool.{cases_lt}
@@ -11,8 +11,7 @@ use Rattle.plane_geom.specs.Lengths.{distance_square}
 use Rattle.plane_geom.specs.Rings.{around, origin}
 use Rattle.strip_graph.specs.declared.tilings.Step.{Step}
 use Rattle.strip_graph.specs.declared.tilings.Step.TheVariants.{V, H}
-use Rattle.strip_graph.specs.Edges.{IsLevel}
-use Rattle.strip_graph.specs.Strips.{Strip, IsStrip, arcs, rows, cols, area_square, rule_cost}
+use Rattle.strip_graph.specs.Strips.{Strip, arcs, rows, cols, area_square, rule_cost}
 use Rattle.strip_graph.specs.Feasible.{IsRowPeriodic}
 use Rattle.strip_graph.proofs.Around.{around-mod, around-more}
 use Rattle.round_sweeps.specs.declared.tiles.TileEnd.{TileEnd}
@@ -147,32 +146,6 @@ pub ends_counted : (p : Strip) (lows highs : List TileEnd) (rise : ℕ) (w : Wei
     → AreCounted p (tile_arcs lows highs rise w)
 ends_counted p lows highs rise w h =
     counted_of p lows highs rise w (rows p) (cols p) h.low.count h.high.count refl refl h
-
--- ends under other names
-ends_same : (turned : Bool) (z z' : ℤ) (ring ring' : List Point) (ends : List TileEnd) → z ≡ z' → ring ≡ ring'
-    → AreTileEnds turned z ring (length ring) ends → AreTileEnds turned z' ring' (length ring') ends
-ends_same turned z z' ring ring' ends ez er h =
-    subst (λ (x : List Point). AreTileEnds turned z' x (length x) ends) er
-    (subst (λ (x : ℤ). AreTileEnds turned x ring (length ring) ends) ez h)
-
--- a pair's ends as they were made
-pub ends_read : (p : Strip) (low high : List Point) (a b : Point) (za zb : ℤ) (lows highs : List TileEnd) (rise : ℤ)
-    (w : Weights) → IsStrip p → IsLevel p.low → IsLevel p.high → low ≡ p.low → high ≡ p.high → a ≡ around low 0
-    → b ≡ around high 0 → za ≡ a.z → zb ≡ b.z
-    → AreTileEnds false zb low (length low) lows → AreTileEnds true za high (length high) highs
-    → rise ≡ pos (square ((around low 0).z -ℤ (around high 0).z)) → IsRuleOf p.cost w
-    → AreEndsOf p lows highs (unsigned_abs rise) w
-ends_read p low high a b za zb lows highs rise w strip l t el eh ea eb ez ew f g is rule = record {
-  strip = strip;
-  low_level = l;
-  high_level = t;
-  low = ends_same false zb (around p.high 0).z low p.low lows
-      (ew ∙ ap (λ (q : Point). q.z) eb ∙ ap (λ (x : List Point). (around x 0).z) eh) el f;
-  high = ends_same true za (around p.low 0).z high p.high highs
-      (ez ∙ ap (λ (q : Point). q.z) ea ∙ ap (λ (x : List Point). (around x 0).z) el) eh g;
-  rises = ap unsigned_abs is ∙ ap₂ (λ (x y : List Point). square ((around x 0).z -ℤ (around y 0).z)) el eh;
-  rule = rule;
-}
 
 -- they are in range
 pub ends_fit : (p : Strip) (lows highs : List TileEnd) (rise : ℕ) (w : Weights) → AreEndsOf p lows highs rise w

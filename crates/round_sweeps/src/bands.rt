@@ -1,7 +1,6 @@
 //! What turns cost at least, by a search back from the ends of many turns, over what a potential leaves under a limit.
 ghost use Rattle.std.specs.Prelude.{◌≡◌, ℕ, ◌+◌, ◌-◌, ◌*◌, ◌<◌, ◌≤◌, ◌^◌, ℤ, pos, neg_ℤ, ◌+ℤ◌, ◌-ℤ◌, ◌≤ℤ◌, unsigned_abs, IfSome, OnOk, length, take, drop};
-ghost use Rattle.strip_graph.specs.declared.tilings.Step.{Step};
-ghost use Rattle.strip_graph.specs.Feasible.{IsRowPeriodic, AreTurnBounds, lifted};
+ghost use Rattle.strip_graph.specs.Feasible.{lifted};
 ghost use Rattle.round_sweeps.specs.Columns.{start_limit, value_limit, at_row, table_at, AreRowsBounded};
 ghost use Rattle.round_sweeps.specs.Tables.{GoesRound, AreColumnsInRange, IsSearchable, IsTable, AreFitBounds};
 ghost use Rattle.round_sweeps.specs.Searches.{gone, numbers_from, downs_from, rights_from, AreSumsOf, IsWindow, IsBackColumn};

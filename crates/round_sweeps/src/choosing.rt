@@ -1,11 +1,11 @@
 //! The chosen tiling of a strip, by bounds of its turns and a search, where they give it.
-ghost use Rattle.std.specs.Prelude.{◌≡◌, ℕ, ◌+◌, ◌*◌, ◌<◌, ◌≤◌, ℤ, pos, neg_ℤ, ◌+ℤ◌, ◌≤ℤ◌, ◌^◌, unsigned_abs, IfOk, IfSome, OnOk, length, drop};
+ghost use Rattle.std.specs.Prelude.{◌≡◌, ℕ, ◌+◌, ◌*◌, ◌<◌, ◌≤◌, ℤ, pos, neg_ℤ, ◌+ℤ◌, ◌≤ℤ◌, ◌^◌, IfOk, IfSome, OnOk, length};
 ghost use Rattle.strip_graph.specs.declared.tilings.Step.{Step};
 ghost use Rattle.strip_graph.specs.declared.tilings.Step.TheVariants.{V};
 ghost use Rattle.strip_graph.specs.Words.{word_cost};
 ghost use Rattle.strip_graph.specs.Tilings.{IsChosen};
-ghost use Rattle.strip_graph.specs.Feasible.{IsRowPeriodic, AreTurnBounds};
-ghost use Rattle.round_sweeps.specs.Columns.{start_limit, value_limit, at_row, table_at, AreRowsBounded, IsFirstLeastAmong};
+ghost use Rattle.strip_graph.specs.Feasible.{IsRowPeriodic};
+ghost use Rattle.round_sweeps.specs.Columns.{start_limit, value_limit, at_row, IsFirstLeastAmong};
 ghost use Rattle.round_sweeps.specs.Starts.{AreRates, AreStarts};
 ghost use Rattle.round_sweeps.specs.Tables.{GoesRound, AreColumnsInRange, IsTable, AreFitBounds};
 

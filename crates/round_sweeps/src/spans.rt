@@ -4,11 +4,11 @@ ghost use Rattle.plane_geom.specs.Rings.{IsRing, around};
 ghost use Rattle.fku_types.specs.declared.rules.CostRule.TheVariants.{Span};
 ghost use Rattle.fku_types.specs.Points.{square};
 ghost use Rattle.strip_graph.specs.Edges.{IsLevel};
-ghost use Rattle.strip_graph.specs.Strips.{IsStrip, arcs, rows, cols};
+ghost use Rattle.strip_graph.specs.Strips.{arcs, rows, cols};
 ghost use Rattle.strip_graph.specs.Words.{word_cost};
 ghost use Rattle.strip_graph.specs.Tilings.{IsChosen};
 ghost use Rattle.round_sweeps.specs.Levels.{AreLevelRings};
-ghost use Rattle.round_sweeps.specs.Planes.{ArePlanar, AreSpans, rise_limit};
+ghost use Rattle.round_sweeps.specs.Planes.{rise_limit};
 
 use crate::choosing::{Choice, choose_tiling};
 use crate::lines::{Line, is_level, line_of, point_at};

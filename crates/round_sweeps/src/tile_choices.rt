@@ -1,8 +1,6 @@
 //! The chosen tiling of a pair by what is counted for its steps.
 ghost use Rattle.std.specs.Prelude.{◌≡◌, ◌≤◌, ◌*◌, ◌^◌, IfOk, IfSome, pos};
-ghost use Rattle.plane_geom.specs.Rings.{IsRing};
-ghost use Rattle.strip_graph.specs.Edges.{IsLevel};
-ghost use Rattle.strip_graph.specs.Strips.{IsStrip, arcs, rows, cols};
+ghost use Rattle.strip_graph.specs.Strips.{arcs, rows, cols};
 ghost use Rattle.strip_graph.specs.Words.{word_cost};
 ghost use Rattle.strip_graph.specs.Tilings.{IsChosen};
 ghost use Rattle.round_sweeps.specs.Levels.{AreLevelRings};

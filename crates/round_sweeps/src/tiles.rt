@@ -1,7 +1,6 @@
 //! What is counted for steps that count areas, by the coordinates of points and by edges.
 ghost use Rattle.std.specs.Prelude.{◌≡◌, ◌≤◌, ◌*◌, ◌^◌, ◌-ℤ◌, unsigned_abs, min};
 ghost use Rattle.fku_types.specs.Points.{square, IsCoordinate, IsInRange};
-ghost use Rattle.plane_geom.specs.Planes.{cross_product};
 ghost use Rattle.round_sweeps.specs.Tiles.{FitsEdge, FitsEnd, IsTileEdge, most_upright, most_side, most_area, tile_area, tile_span};
 
 use fku_types::Point;

@@ -1,7 +1,7 @@
 //! The first least word of a turn, by a search back over what a potential leaves.
 ghost use Rattle.std.specs.Prelude.{◌≡◌, ℕ, ◌+◌, ◌*◌, ◌<◌, ◌≤◌, ℤ, pos, neg_ℤ, ◌+ℤ◌, ◌≤ℤ◌, IfOk, IsTrue, length, drop, take};
 ghost use Rattle.strip_graph.specs.Feasible.{IsRowPeriodic, lifted};
-ghost use Rattle.round_sweeps.specs.Columns.{start_limit, value_limit, table_at, AreRowsBounded};
+ghost use Rattle.round_sweeps.specs.Columns.{start_limit, value_limit, table_at};
 ghost use Rattle.round_sweeps.specs.Tables.{IsSearchable};
 ghost use Rattle.round_sweeps.specs.Searches.{way_of, way_at, numbers_from, downs_from, rights_from, AreSumsOf, IsWindow, IsBackColumn, IsSearchedTo, IsMet};
 ghost use Rattle.round_sweeps.specs.Searched.{guarded, spell};

@@ -1,7 +1,6 @@
 //! The weights of a rule.
 ghost use Rattle.std.specs.Prelude.{◌≡◌, ◌*◌, ◌≤◌, ◌^◌, pos, IsFalse};
 ghost use Rattle.fku_types.specs.Rules.{IsWeighted};
-ghost use Rattle.round_sweeps.specs.Columns.{most_cost};
 ghost use Rattle.round_sweeps.specs.Tiles.{FitWeights, IsRuleOf, most_area, tile_cost};
 
 use fku_types::CostRule;

@@ -10,7 +10,6 @@ use Rattle.std.proofs.lemmas.Int.{ints}
 use Rattle.std.proofs.lemmas.List.{length-map}
 use Rattle.std.proofs.Math.ListN.{length-set}
 use Rattle.std.proofs.lemmas.List.Edits.{length-insert, length-remove}
-use Rattle.fku_types.specs.declared.points.Point.{Point}
 use Rattle.fku_types.specs.declared.points.Spot.{Spot as Place}
 use Rattle.fku_types.proofs.ListLaws.{any_map}
 use Rattle.section_core.specs.declared.parts.Contour.{Contour}
@@ -83,11 +82,6 @@ own_drop S name k e = cond-false _ _ _ (ap not (there S.sections name k e))
 -- points of a contour of the code
 pub enough_points : (c : Contour) → IsWholeContour (contour_parts c) → 3 ≤ length c.points.items
 enough_points c w = let h : pos 3 ≤ℤ pos (length c.points.items) = w.1 in omega (arith, ints)
-
-pub spots_are : (S : Parts) (name : List ℕ) (c : Contour) (pts : List Point)
-    → contour_of S.sections name ≡ Some (contour_parts c) → pts ≡ c.points.items
-    → map spot_of pts ≡ spots_of S.sections name
-spots_are S name c pts e same = ap (map spot_of) same ∙ sym (its_spots S.sections name (contour_parts c) e)
 
 -- the places that it has after the edit
 pub enough_after : (c : Contour) (ps : List Place) (i n : ℕ) (change : VertexChange) → IsWholeContour (contour_parts c)

@@ -129,6 +129,3 @@ pub all_places : (ws rest : List (List ℕ)) (ps : List Spot) → Reads ws rest 
 all_places ws rest ps r f =
     subst (AreSpots ws) (append-nil ps)
     ((subst (λ (xs : List (List ℕ)). Reads ws xs ps) f r).join [] (tt, tt))
-
-pub none_read : (ws : List (List ℕ)) → Reads ws ws []
-none_read ws = record { join = λ qs h. h; split = λ qs h. (qs, refl, h) }

@@ -2,7 +2,7 @@
 use Rattle.std.proofs.Common.{inl, inr, ◌≡◌, ℕ, ◌+◌, ◌<◌, ◌≤◌, List, [], ◌∷◌, ◌++◌, length, take, drop, get_or, map, flat_map, refl, sym, ap, ap₂, ◌∙◌, subst}
 use Rattle.std.specs.Prelude.{All, Result, Err, IfErr}
 use Rattle.std.proofs.lemmas.List.{map-append, append-nil}
-use Rattle.std.proofs.lemmas.List.Elements.{All-append, All-cons, All-nil}
+use Rattle.std.proofs.lemmas.List.Elements.{All-append, All-nil}
 use Rattle.std.proofs.lemmas.Grind.{flat_map-append}
 use Rattle.fku_types.specs.declared.limits.TheConstants.{MAX_COMPOSITE_VERTICES}
 use Rattle.fku_types.proofs.ListLaws.{split_at}
@@ -18,9 +18,6 @@ use Rattle.section_pairs.proofs.Firsts.{front_more, first_left, first_right, all
 pub err_told : {X : Type 0} (r : Result X Fault) (fault : Fault) (Q : Fault → Type 0) → r ≡ Err fault → Q fault
     → IfErr r Q
 err_told {X = X} r fault Q e q = subst (λ (r : Result X Fault). IfErr r Q) (sym e) q
-
-pub both : {Y : Type 0} (P : Y → Type 0) (x y : Y) → P x → P y → All P (x ∷ y ∷ [])
-both P x y h k = All-cons P x (y ∷ []) h (all_one P y k)
 
 pub below_long : (low high : List RingView) (g : ℕ) (c : Members) (fault : Fault)
     → OrNoMemory (HasLongSide (g + 1, length (composite_at low c.below).points)) fault

@@ -1,6 +1,5 @@
 -- Pairs of composite contours as contracts see them.
-use Rattle.std.specs.Prelude.{◌≡◌, ℕ, ◌+◌, ◌≤◌, ◌<◌, List, [], ◌∷◌, ◌++◌, length, map, slice_index_or, Vec}
-use Rattle.std.specs.Global.{Global}
+use Rattle.std.specs.Prelude.{◌≡◌, ℕ, ◌+◌, ◌≤◌, ◌<◌, List, [], ◌∷◌, ◌++◌, length, map, slice_index_or}
 use Rattle.std.specs.List.{flat_map}
 use Rattle.fku_types.specs.declared.limits.TheConstants.{MAX_COMPOSITE_VERTICES}
 use Rattle.fku_types.specs.declared.rules.CostRule.{CostRule}
@@ -8,9 +7,8 @@ use Rattle.plane_geom.specs.Rings.{RingView}
 use Rattle.strip_graph.specs.Strips.{Strip}
 use Rattle.section_core.specs.Parts.{Parts}
 use Rattle.section_core.specs.Costs.{cost_rule}
-use Rattle.correspondence.specs.declared.gaps.Component.{Component}
 use Rattle.correspondence.specs.Components.{Members}
-use Rattle.correspondence.specs.Gaps.{members_of, AreGapMembers}
+use Rattle.correspondence.specs.Gaps.{AreGapMembers}
 use Rattle.section_pairs.specs.declared.gap_pairs.GapPair.{GapPair}
 use Rattle.section_pairs.specs.Rings.{rings_at, composite_at}
 
@@ -28,13 +26,6 @@ pair_parts p = record { strip = p.pair; gap = p.gap; below = p.below.items; abov
 pub record AreGaps (S : Parts) (gaps : List (List Members)) : Type 0 where
   pub count : length gaps + 1 ≡ length S.sections
   pub components : (g : ℕ) → g < length gaps → AreGapMembers S g (slice_index_or gaps g [])
-
--- the components of gaps, as the code holds them
-abbrev pub members_in : Vec Component Global → List Members
-members_in v = map members_of v.items
-
-abbrev pub gaps_of : List (Vec Component Global) → List (List Members)
-gaps_of gaps = map members_in gaps
 
 -- the pair of a component of gap g, between the rings of the section below and those of the section above
 abbrev pub pair_between : CostRule → List RingView → List RingView → ℕ → Members → PairParts

@@ -1,4 +1,3 @@
-mod MapSteps
 pub mod LoopReads
 pub mod SliceHeights
 pub mod GapPairs

@@ -29,11 +29,6 @@ opened_other : (xs : List Spot) (p d : Spot) → 0 < length xs → is_same_spot 
 opened_other [] p d l e = absurd (omega arith)
 opened_other (x ∷ xs) p d l e = ap (λ (ys : List Spot). x ∷ ys) (more_other x xs p e)
 
-opened_short : (xs : List Spot) → length xs ≤ 1 → opened_loop xs ≡ xs
-opened_short [] l = refl
-opened_short (x ∷ []) l = refl
-opened_short (x ∷ y ∷ xs) l = absurd (omega arith)
-
 -- the first of some spots
 first_is : (xs : List Spot) (n : ℕ) (d : Spot) → 0 < n → get_or (take n xs) 0 d ≡ get_or xs 0 d
 first_is [] zero d l = refl

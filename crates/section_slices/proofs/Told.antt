@@ -10,7 +10,7 @@ use Rattle.section_core.specs.Parts.{CostParts, Parts}
 use Rattle.section_core.specs.Accepted.{IsAccepted}
 use Rattle.section_core.specs.Finished.{ended_parts}
 use Rattle.section_core.specs.Made.{IsMakeFault}
-use Rattle.section_pairs.specs.SectionFaults.{IsFound, in_contours, in_links, in_composites, HasSelfCrossing, HasCrossing, HasLongSide, IsPairsFault}
+use Rattle.section_pairs.specs.SectionFaults.{IsFound, in_contours, in_links, in_composites, HasSelfCrossing, HasCrossing, HasLongSide}
 use Rattle.section_slices.specs.declared.sections.DensifyFault.{DensifyFault}
 use Rattle.section_slices.specs.declared.sections.DensifyFault.TheVariants.{Mid}
 use Rattle.section_slices.specs.Faults.{middle_fault, IsTestFault, IsRemakeFault, of_parts, of_sections}
@@ -21,12 +21,6 @@ not_memory S fault (in_contours f (inl h)) e = subst (HasSelfCrossing h.item) e 
 not_memory S fault (in_contours f (inr h)) e = subst (HasCrossing h.first.item) e h.first.has
 not_memory S fault (in_links below above cause k sound bad) e = absurd (cc)
 not_memory S fault (in_composites f linked h) e = subst (HasLongSide h.first.item) e h.first.has
-
--- the report of a fault that is found, or of `NoMemory`
-pub tested : (T : Parts) (fault : Fault) → IsPairsFault T fault → IsTestFault T (middle_fault fault)
-tested T NoMemory h = tt
-tested T fault (inl e) = absurd (cc)
-tested T fault (inr h) = h
 
 pub of_make : (cost : CostParts) (rule : PairRule) (sections : List Section) (links : List Link) (fault : Fault)
     → IsMakeFault cost rule sections links fault → IsRemakeFault cost rule sections links (middle_fault fault)

@@ -68,10 +68,6 @@ all_digits : (ds : List ℕ) → are_digits ds ≡ true → list_all is_digit ds
 all_digits [] a = absurd (search (a, rules))
 all_digits (d ∷ ds) a = a
 
-some_digits : (ds : List ℕ) → are_digits ds ≡ true → 0 < length ds
-some_digits [] a = absurd (search (a, rules))
-some_digits (d ∷ ds) a = omega arith
-
 -- as many digits as come first, but for a limit
 ends_at : (ds rest : List ℕ) (n limit : ℕ) → list_all is_digit ds ≡ true → length ds ≤ limit → BeginsNoDigit rest
     → n ≤ limit → n ≤ length (ds ++ rest) → list_all is_digit (take n (ds ++ rest)) ≡ true

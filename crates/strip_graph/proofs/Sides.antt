@@ -179,20 +179,6 @@ entry-mono i j (H ∷ w) x y le =
       | inr ge ↦ omega (arith, entry-start i j (H ∷ w) x ge, (entry-bounds i j (H ∷ w) y).0)
     ]
 
--- the front of a word shows where it enters the rows up to the front's last one, and the back the later ones
-pub entry-front : (i j : ℕ) (u w : List Step) (x : ℕ) → x ≤ i + count_v u → entry i j (u ++ w) x ≡ entry i j u x
-entry-front i j [] w x le = entry-start i j w x (omega arith)
-entry-front i j (V ∷ u) w x le =
-    elim (cases_lt i x) [
-      | inl lt ↦ omega (arith, entry-v i j (u ++ w) x lt, entry-v i j u x lt, entry-front (i + 1) j u w x (omega arith))
-      | inr ge ↦ omega (arith, entry-start i j (V ∷ (u ++ w)) x ge, entry-start i j (V ∷ u) x ge)
-    ]
-entry-front i j (H ∷ u) w x le =
-    elim (cases_lt i x) [
-      | inl lt ↦ omega (arith, entry-h i j (u ++ w) x lt, entry-h i j u x lt, entry-front i (j + 1) u w x le)
-      | inr ge ↦ omega (arith, entry-start i j (H ∷ (u ++ w)) x ge, entry-start i j (H ∷ u) x ge)
-    ]
-
 pub entry-back : (i j : ℕ) (u w : List Step) (x : ℕ) → i + count_v u < x
     → entry i j (u ++ w) x ≡ entry (i + count_v u) (j + count_h u) w x
 entry-back i j [] w x lt = ap₂ (λ (y z : ℕ). entry y z w x) (omega arith) (omega arith)

@@ -1,6 +1,5 @@
 //! The formats in which surfaces are written.
-ghost use Rattle.std.specs.Prelude.{◌≡◌, IfOk};
-ghost use Rattle.triangle_meshes.specs.Meshes.{IsValid, surface_of};
+ghost use Rattle.std.specs.Prelude.{◌≡◌};
 ghost use Rattle.byu_text.specs.Byu.{byu_of};
 
 use byu_text::write_byu;

@@ -3,7 +3,7 @@ ghost use Rattle.std.specs.Prelude.{◌≡◌, IfOk, IfSome, None, Ok, map, stri
 ghost use Rattle.clap.specs.Words.{found_of, new_app, rows_of};
 ghost use Rattle.surface_cli.specs.Arguments.{certify_app, certify_of, demo_app, demo_of, plain_app, slice_app, slice_of, with_workers, without_workers};
 ghost use Rattle.surface_cli.specs.Commands.{commands};
-ghost use Rattle.surface_cli.specs.Words.{AreValuesInRange, IsTaskInRange, is_command, meaning, meaning_among, names_command, where_taken};
+ghost use Rattle.surface_cli.specs.Words.{AreValuesInRange, IsTaskInRange, meaning, names_command, where_taken};
 ghost use Rattle.surface_cli.specs.Taking.{HasWorkers, is_sure_app};
 
 use crate::arguments::{demo_command, plain_command, slice_command, taken};

@@ -1,4 +1,3 @@
-mod ListSteps
 pub mod PassedStrips
 pub mod JoinedPlaces
 pub mod PlaceSums

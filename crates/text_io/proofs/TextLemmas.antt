@@ -148,10 +148,6 @@ position_some p xs n h = (grind (arith, nat_tests), grind (arith, nat_tests))
 pub position_none : (p : ℕ → Bool) (xs : List ℕ) → position p xs ≡ None → position_or_len p xs ≡ length xs
 position_none p xs h = let le = prefix_len-le-length (λ x. not (p x)) xs in grind (arith, nat_tests)
 
-not_not : (b : Bool) → not (not b) ≡ true → b ≡ true
-not_not true h = refl
-not_not false h = absurd (false≢true h)
-
 not_not-false : (b : Bool) → not (not b) ≡ false → b ≡ false
 not_not-false true h = absurd (false≢true (sym h))
 not_not-false false h = refl

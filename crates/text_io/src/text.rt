@@ -1,5 +1,5 @@
 //! Lines, words and integers.
-ghost use Rattle.std.specs.Prelude.{◌≡◌, ◌≤◌, ◌↔◌, drop, length, not, true, Some, None, IfSome, IsNone, [], if◌then◌else◌, nat_le};
+ghost use Rattle.std.specs.Prelude.{◌≡◌, ◌≤◌, ◌↔◌, length, not, true, Some, None, IfSome, IsNone, [], if◌then◌else◌, nat_le};
 ghost use Rattle.std.specs.List.{list_all, position};
 ghost use Rattle.text_io.specs.Text.{IsLineAt, is_blank, is_feed, without_return, is_digit, are_digits, digits_of, signed, number_of, value_after, Reads};
 ghost use Rattle.std.specs.Option.{option_map};

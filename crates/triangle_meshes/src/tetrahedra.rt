@@ -1,7 +1,6 @@
 //! Six times the signed volume between four points: a determinant.
 ghost use Rattle.std.specs.Prelude.{◌≡◌, ◌*◌, ◌≤◌, ◌^◌, unsigned_abs, ◌*ℤ◌};
 ghost use Rattle.fku_types.specs.Points.{IsInRange};
-ghost use Rattle.plane_geom.specs.Planes.{cross_product};
 ghost use Rattle.triangle_meshes.specs.Volumes.{seen_from, determinant};
 ghost use Rattle.triangle_meshes.specs.Vectors.{point_of, IsDifference};
 

@@ -1,4 +1,4 @@
-use Rattle.std.proofs.Common.{List, map, take, subst, sym, bytes_eq}
+use Rattle.std.proofs.Common.{map, take, subst, sym, bytes_eq}
 use Rattle.indexmap.specs.IndexMap.{get}
 use Rattle.section_core.specs.Views.{link_parts}
 use Rattle.correspondence.specs.Named.{names_above, AreNamedAbove}

@@ -1,7 +1,7 @@
 use Rattle.std.proofs.Common.{◌∙◌, ℤ, map, ap, w32, to_z, of_z}
 use Rattle.std.proofs.Math.Facts.{to_z-of_z}
 use Rattle.section_core.specs.Views.{placed}
-use Rattle.section_slices.proofs.MapSteps.{mapped_next, mapped_all}
+use Rattle.fku_types.proofs.LoopSteps.{mapped_next, mapped_all}
 use Rattle.section_slices.proofs.middles.all_placed.Goals as goal
 
 pub loop-spot-preserved : goal.loop-spot-preserved

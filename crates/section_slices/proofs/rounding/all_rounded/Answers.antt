@@ -1,6 +1,6 @@
 use Rattle.fku_types.proofs.ListLaws.{all_pushed}
 use Rattle.section_slices.specs.Roundings.{rounded_spot, IsRoundedInRange}
-use Rattle.section_slices.proofs.MapSteps.{mapped_next, mapped_all}
+use Rattle.fku_types.proofs.LoopSteps.{mapped_next, mapped_all}
 use Rattle.section_slices.proofs.rounding.all_rounded.Goals as goal
 
 pub loop-point-preserved : goal.loop-point-preserved

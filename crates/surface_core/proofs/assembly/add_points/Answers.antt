@@ -2,7 +2,7 @@ use Rattle.std.proofs.Common.{◌<◌, ◌≤◌, ◌++◌, ◌∙◌, List, get
 use Rattle.fku_types.specs.declared.points.Point.{Point}
 use Rattle.correspondence.specs.Contours.{points_of}
 use Rattle.section_core.specs.declared.parts.Contour.{Contour}
-use Rattle.surface_core.proofs.ListSteps.{listed_next, listed_all}
+use Rattle.fku_types.proofs.LoopSteps.{put_next, put_all}
 use Rattle.surface_core.proofs.assembly.add_points.Goals as goal
 
 pub loop-contour-preserved : goal.loop-contour-preserved
@@ -11,7 +11,7 @@ loop-contour-preserved c =
     let i = c.loop-contour.contour-index in
     let contour = c.contour-item.result in
     let was = c.loop-contour.points.items in
-    listed_next points_of c.args.section.now.contours.items i contour c.args.points.now.items was
+    put_next points_of c.args.section.now.contours.items i contour c.args.points.now.items was
     c.extend_from_slice.new.self.items (subst (λ (xs : List Contour). i < length xs) same c.loop-contour-test.true)
     (c.contour-item.is ∙ ap (λ (xs : List Contour). get_or xs i contour) same) c.loop-contour.invariant
     (c.in_ok-extend_from_slice.ensures.items ∙ ap (λ (ps : List Point). was ++ ps) c.deref.ensures.value)
@@ -19,6 +19,6 @@ loop-contour-preserved c =
 pub returns : goal.returns
 returns c =
     let i = c.loop-contour.contour-index in
-    listed_all points_of c.args.section.now.contours.items i c.args.points.now.items c.loop-contour.points.items
+    put_all points_of c.args.section.now.contours.items i c.args.points.now.items c.loop-contour.points.items
     (subst (λ (xs : List Contour). length xs ≤ i) c.deref-contour-items.ensures.value c.loop-contour-test.false)
     c.loop-contour.invariant
