@@ -1,5 +1,6 @@
-use Rattle.std.proofs.Common.{◌≡◌, ◌∙◌, ℕ, ◌+◌, ◌-◌, ◌*◌, length, take, drop, replicate, arith, w64}
+use Rattle.std.proofs.Common.{◌≡◌, ◌∙◌, ℕ, ◌+◌, ◌-◌, ◌*◌, length, take, drop, replicate, sym, arith, w64}
 use Rattle.std.proofs.lemmas.Int.{ints, to_z-of_z}
+use Rattle.std.proofs.Math.Seq.{take-append_seam}
 use Rattle.round_sweeps.specs.Columns.{AreRowsBounded}
 use Rattle.round_sweeps.specs.Searches.{gone}
 use Rattle.round_sweeps.proofs.OfColumnLaws.{column_length, bounded_take}
@@ -48,3 +49,13 @@ fill_ends-requires-clause-ends g c =
     ∙ c.in_ok-ends.ensures.items_if_clones_equal (λ y e. e) in
     rw (d, column_length m n c.args.table.now c.requires.table.room, is)
     (sums_none (2 * m - 1) (2 * m) (omega (arith, c.requires.row)))
+
+pub raise_bounds-requires-clause-ends : goal.raise_bounds-requires-clause-ends
+raise_bounds-requires-clause-ends g c =
+    let m : ℕ = c.args.rows in
+    let n : ℕ = c.args.cols in
+    let d : n * m + m - n * m ≡ m = omega arith in
+    let len : c.in_ok-ends.ends.len ≡ length c.fill_ends.new.ends =
+    sym (c.fill_ends.auto.ends ∙ c.deref_mut.ensures.len) in
+    rw (c.deref.ensures.value, len, take-append_seam)
+    (rw (d, column_length m n c.args.table.now c.requires.table.room) at c.fill_ends.ensures.ends)
