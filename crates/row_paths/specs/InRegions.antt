@@ -1,7 +1,7 @@
 -- What a search keeps, stated for a strip, a region of it and a row.
-use Rattle.std.specs.Prelude.{ℕ, ◌+◌, ◌-◌, Bool, List}
+use Rattle.std.specs.Prelude.{ℕ, ◌+◌, ◌-◌, ◌*◌, ◌<◌, ◌≤◌, Bool, List}
 use Rattle.strip_graph.specs.declared.tilings.Step.{Step}
-use Rattle.strip_graph.specs.Strips.{Strip, arcs, cols}
+use Rattle.strip_graph.specs.Strips.{Strip, arcs, rows, cols}
 use Rattle.strip_graph.specs.Distances.{IsFirst}
 use Rattle.row_paths.specs.declared.regions.Region.{Region}
 use Rattle.row_paths.specs.StripCosts.{largest}
@@ -19,6 +19,13 @@ last_in g = last_at g.hi.now
 -- how many places the region has
 abbrev pub places_in : Region → ℕ
 places_in g = area (first_in g) (last_in g) g.start (g.end + 1 - g.start)
+
+-- a search has room: the region's rows are among the strip's rows 0 to 2m - 1, its columns are the strip's, and a list
+-- of as many sums has one for each of these columns
+pub record HasRoom (p : Strip) (g : Region) (count : ℕ) : Type 0 where
+  pub end : g.end < 2 * rows p
+  pub width : g.width ≤ cols p
+  pub sums : g.width < count
 
 -- a word is the first least one from the region's first row to its last one; and such words stay in the region
 abbrev pub IsFirstIn : Strip → Region → List Step → Type 0

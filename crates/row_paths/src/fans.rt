@@ -1,8 +1,7 @@
 //! Least costs from one place of a region to the ends of its rows.
 ghost use Rattle.std.specs.Prelude.{◌≡◌, ℕ, ◌+◌, ◌-◌, ◌*◌, ◌<◌, ◌≤◌, max, length, map};
-ghost use Rattle.strip_graph.specs.Strips.{cols, rows};
 ghost use Rattle.row_paths.specs.Counts.{area};
-ghost use Rattle.row_paths.specs.InRegions.{first_in, last_in, ReachedTo, ReachedAfter, EndsOf};
+ghost use Rattle.row_paths.specs.InRegions.{first_in, last_in, HasRoom, ReachedTo, ReachedAfter, EndsOf};
 
 use crate::amounts::{Amount, Cost};
 use crate::regions::Region;
@@ -21,9 +20,7 @@ fn go_on<C: Cost, L: Ledger>(
     sums: &mut [C::Sum],
     steps: &mut Steps<L>,
 )
-    requires end { region.now.end < 2 * rows from.now.strip }
-    requires width { region.now.width ≤ cols from.now.strip }
-    requires sums { region.now.width < length sums.old }
+    requires room { HasRoom from.now.strip region.now (length sums.old) }
     requires above { region.now.start ≤ from.now.row }
     requires row { from.now.row ≤ region.now.end }
     requires from { max (first_in region.now from.now.row) left ≤ first }
@@ -53,9 +50,7 @@ fn enter<C: Cost, L: Ledger>(
     sums: &mut [C::Sum],
     steps: &mut Steps<L>,
 )
-    requires end { region.now.end < 2 * rows above.now.strip }
-    requires width { region.now.width ≤ cols above.now.strip }
-    requires sums { region.now.width < length sums.old }
+    requires room { HasRoom above.now.strip region.now (length sums.old) }
     requires above { region.now.start ≤ above.now.row }
     requires row { above.now.row < region.now.end }
     requires first { first ≡ max (first_in region.now (above.now.row + 1)) left }
@@ -88,9 +83,7 @@ fn choose_on<C: Cost, L: Ledger>(
 )
     requires strip { from.now.strip ≡ above.now.strip }
     requires next { from.now.row ≡ above.now.row + 1 }
-    requires end { region.now.end < 2 * rows above.now.strip }
-    requires width { region.now.width ≤ cols above.now.strip }
-    requires sums { region.now.width < length sums.old }
+    requires room { HasRoom above.now.strip region.now (length sums.old) }
     requires above { region.now.start ≤ above.now.row }
     requires row { above.now.row < region.now.end }
     requires from { max (first_in region.now (above.now.row + 1)) left ≤ first }
@@ -128,9 +121,7 @@ fn next_row<C: Cost, L: Ledger>(
 )
     requires strip { from.now.strip ≡ above.now.strip }
     requires next { from.now.row ≡ above.now.row + 1 }
-    requires end { region.now.end < 2 * rows above.now.strip }
-    requires width { region.now.width ≤ cols above.now.strip }
-    requires sums { region.now.width < length sums.old }
+    requires room { HasRoom above.now.strip region.now (length sums.old) }
     requires above { region.now.start ≤ above.now.row }
     requires row { above.now.row < region.now.end }
     requires left { left ≤ last_in region.now above.now.row }
@@ -162,9 +153,7 @@ fn first_row<C: Cost, L: Ledger>(
     sums: &mut [C::Sum],
     steps: &mut Steps<L>,
 )
-    requires end { region.now.end < 2 * rows from.now.strip }
-    requires width { region.now.width ≤ cols from.now.strip }
-    requires sums { region.now.width < length sums.old }
+    requires room { HasRoom from.now.strip region.now (length sums.old) }
     requires row { from.now.row ≡ region.now.start }
     requires from { first_in region.now region.now.start ≤ left }
     requires left { left ≤ last_in region.now region.now.start }
@@ -188,9 +177,7 @@ pub(crate) fn fill_ends<C: Cost, L: Ledger>(
     ends: &mut [C::Sum],
     steps: &mut Steps<L>,
 )
-    requires width { region.now.width ≤ cols strip.now }
-    requires end { region.now.end < 2 * rows strip.now }
-    requires sums { region.now.width < length sums.old }
+    requires room { HasRoom strip.now region.now (length sums.old) }
     requires ends { region.now.end < length ends.old }
     requires from { first_in region.now region.now.start ≤ left }
     requires left { left ≤ last_in region.now region.now.start }

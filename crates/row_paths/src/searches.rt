@@ -3,8 +3,8 @@ ghost use Rattle.std.specs.Prelude.{◌≡◌, ◌⊎◌, IsTrue, IsFalse, IfOk,
 ghost use Rattle.strip_graph.specs.Strips.{arcs, cols, rows};
 ghost use Rattle.strip_graph.specs.Distances.{distance};
 ghost use Rattle.row_paths.specs.Tables.{IsTableOf};
-ghost use Rattle.row_paths.specs.Searches.{IsSameBut, HasAllWays, LeadsDown, LeadsRight, HasEntries};
-ghost use Rattle.row_paths.specs.InRegions.{first_in, last_in, places_in, CostsFrom, CostsBefore, StartsOf, WaysFrom, AllWays, WordsStayIn, IsFirstIn};
+ghost use Rattle.row_paths.specs.Searches.{IsSameBut, LeadsDown, LeadsRight, HasEntries};
+ghost use Rattle.row_paths.specs.InRegions.{first_in, last_in, places_in, HasRoom, CostsFrom, CostsBefore, StartsOf, WaysFrom, AllWays, WordsStayIn, IsFirstIn};
 
 use crate::amounts::{Amount, Cost};
 use crate::regions::Region;
@@ -26,9 +26,7 @@ fn go_right<C: Cost, L: Ledger>(
     ways: &mut [bool],
     steps: &mut Steps<L>,
 )
-    requires end { region.now.end < 2 * rows from.now.strip }
-    requires width { region.now.width ≤ cols from.now.strip }
-    requires sums { region.now.width < length sums.old }
+    requires room { HasRoom from.now.strip region.now (length sums.old) }
     requires ways { (region.now.end + 1) * (region.now.width + 1) ≤ length ways.old }
     requires row { from.now.row ≤ region.now.end }
     requires last { last ≤ last_in region.now from.now.row }
@@ -60,9 +58,7 @@ fn choose<C: Cost, L: Ledger>(
     ways: &mut [bool],
     steps: &mut Steps<L>,
 )
-    requires end { region.now.end < 2 * rows from.now.strip }
-    requires width { region.now.width ≤ cols from.now.strip }
-    requires sums { region.now.width < length sums.old }
+    requires room { HasRoom from.now.strip region.now (length sums.old) }
     requires ways { (region.now.end + 1) * (region.now.width + 1) ≤ length ways.old }
     requires row { from.now.row < region.now.end }
     requires below { CostsBefore C.Sum.MOST from.now.strip region.now (from.now.row + 1) (map C.Sum.value sums.old)
@@ -104,9 +100,7 @@ fn go_down<C: Cost, L: Ledger>(
     ways: &mut [bool],
     steps: &mut Steps<L>,
 )
-    requires end { region.now.end < 2 * rows from.now.strip }
-    requires width { region.now.width ≤ cols from.now.strip }
-    requires sums { region.now.width < length sums.old }
+    requires room { HasRoom from.now.strip region.now (length sums.old) }
     requires ways { (region.now.end + 1) * (region.now.width + 1) ≤ length ways.old }
     requires row { from.now.row < region.now.end }
     requires below { CostsFrom C.Sum.MOST from.now.strip region.now (from.now.row + 1) (map C.Sum.value sums.old)
@@ -138,9 +132,7 @@ fn fill_row<C: Cost, L: Ledger>(
     ways: &mut [bool],
     steps: &mut Steps<L>,
 )
-    requires end { region.now.end < 2 * rows from.now.strip }
-    requires width { region.now.width ≤ cols from.now.strip }
-    requires sums { region.now.width < length sums.old }
+    requires room { HasRoom from.now.strip region.now (length sums.old) }
     requires ways { (region.now.end + 1) * (region.now.width + 1) ≤ length ways.old }
     requires row { from.now.row < region.now.end }
     requires below { CostsFrom C.Sum.MOST from.now.strip region.now (from.now.row + 1) (map C.Sum.value sums.old)
@@ -176,9 +168,7 @@ fn fill_end<C: Cost, L: Ledger>(
     ways: &mut [bool],
     steps: &mut Steps<L>,
 )
-    requires end { region.now.end < 2 * rows from.now.strip }
-    requires width { region.now.width ≤ cols from.now.strip }
-    requires sums { region.now.width < length sums.old }
+    requires room { HasRoom from.now.strip region.now (length sums.old) }
     requires ways { (region.now.end + 1) * (region.now.width + 1) ≤ length ways.old }
     requires row { from.now.row ≡ region.now.end }
     ensures costs { CostsFrom C.Sum.MOST from.now.strip region.now region.now.end (map C.Sum.value sums.new)
@@ -211,9 +201,7 @@ fn fill<C: Cost, L: Ledger>(
     starts: &mut [C::Sum],
     steps: &mut Steps<L>,
 )
-    requires width { region.now.width ≤ cols strip.now }
-    requires end { region.now.end < 2 * rows strip.now }
-    requires sums { region.now.width < length sums.old }
+    requires room { HasRoom strip.now region.now (length sums.old) }
     requires ways { (region.now.end + 1) * (region.now.width + 1) ≤ length ways.old }
     requires starts { region.now.end < length starts.old }
     ensures ways { AllWays strip.now region.now ways.new }
@@ -271,8 +259,7 @@ fn goes_down<C: Cost>(
     requires from { first_in region.now row ≤ col }
     requires to { col ≤ last_in region.now row }
     requires left { row + col < region.now.end + cols strip.now }
-    requires known { HasAllWays (arcs strip.now) (first_in region.now) (last_in region.now) region.now.end
-        (cols strip.now) ways.now region.now.start }
+    requires known { AllWays strip.now region.now ways.now }
     ensures down { IsTrue result
         → LeadsDown (arcs strip.now) (first_in region.now) (last_in region.now) region.now.end (cols strip.now) row
         col }
@@ -299,8 +286,7 @@ fn trace<C: Cost>(strip: &StripCosts<'_, C>, region: &Region<'_>, ways: &[bool],
     requires width { region.now.width ≡ cols strip.now }
     requires ways { (region.now.end + 1) * (cols strip.now + 1) ≤ length ways.now }
     requires path { region.now.end + 1 < length path.old }
-    requires known { HasAllWays (arcs strip.now) (first_in region.now) (last_in region.now) region.now.end
-        (cols strip.now) ways.now region.now.start }
+    requires known { AllWays strip.now region.now ways.now }
     requires within { WordsStayIn strip.now region.now }
     ensures { HasEntries (arcs strip.now) (cols strip.now) region.now.start region.now.end path.new }
 {
@@ -351,8 +337,7 @@ fn spell<C: Cost>(
 ) -> Result<Vec<Step>, NoMemory>
     requires width { region.now.width ≡ cols strip.now }
     requires ways { (region.now.end + 1) * (cols strip.now + 1) ≤ length ways.now }
-    requires known { HasAllWays (arcs strip.now) (first_in region.now) (last_in region.now) region.now.end
-        (cols strip.now) ways.now region.now.start }
+    requires known { AllWays strip.now region.now ways.now }
     requires within { WordsStayIn strip.now region.now }
     ensures { IfOk result (λ w. IsFirstIn strip.now region.now w.items) }
 {

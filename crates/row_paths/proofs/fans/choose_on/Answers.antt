@@ -16,14 +16,14 @@ use Rattle.row_paths.proofs.fans.choose_on.Goals.{Start, In-loop-col}
 -- the first column, and the one after a column of the loop, are in the sums
 first_in : (g : given.Over) (c : Start g) → c.args.first < length c.args.sums.now
 first_in g c = le_lt (le_le c.requires.order
-    (eq_le c.requires.last (c.args.region.now.shape.within c.args.above.now.row))) c.requires.sums
+    (eq_le c.requires.last (c.args.region.now.shape.within c.args.above.now.row))) c.requires.room.sums
 
 next_in : (g : given.Over) (c : In-loop-col g) → c.loop-col.col + 1 ≤ c.args.region.now.width
 next_in g c =
     next_le (lt_up c.loop-col-test.true (eq_le c.requires.last (c.args.region.now.shape.within c.args.above.now.row)))
 
 next_in_sums : (g : given.Over) (c : In-loop-col g) → c.loop-col.col + 1 < length c.loop-col.sums
-next_in_sums g c = lt_eq (le_lt (next_in g c) c.requires.sums) c.loop-col.auto.sums
+next_in_sums g c = lt_eq (le_lt (next_in g c) c.requires.room.sums) c.loop-col.auto.sums
 
 pub bounds-sums-first : goal.bounds-sums-first
 bounds-sums-first g c = first_in g (goal.at.bounds-sums-first g c).Start
@@ -35,11 +35,11 @@ pub bounds-sums-col-in-loop-col : goal.bounds-sums-col-in-loop-col
 bounds-sums-col-in-loop-col g c = next_in_sums g (goal.at.bounds-sums-col-in-loop-col g c).In-loop-col
 
 pub down-down-requires : goal.down-down-requires
-down-down-requires g c = le_le (next_in g (goal.at.down-down-requires g c).In-loop-col) c.requires.width
+down-down-requires g c = le_le (next_in g (goal.at.down-down-requires g c).In-loop-col) c.requires.room.width
 
 pub right-right-requires : goal.right-right-requires
 right-right-requires g c =
-    lt_eq (lt_of_next (le_le (next_in g (goal.at.right-right-requires g c).In-loop-col) c.requires.width))
+    lt_eq (lt_of_next (le_le (next_in g (goal.at.right-right-requires g c).In-loop-col) c.requires.room.width))
     (ap cols c.requires.strip)
 
 pub plus-by_v-requires : goal.plus-by_v-requires
@@ -52,13 +52,13 @@ plus-by_v-requires g c =
     let less : c.loop-col.col < col = plus_less c.loop-col.col in
     let within = c.args.region.now.shape.within x in
     let to : col ≤ last_at c.args.region.now.hi.now x = next_le (lt_eq c.loop-col-test.true (sym c.requires.last)) in
-    let at : col ≤ cols p = le_le (le_le to within) c.requires.width in
+    let at : col ≤ cols p = le_le (le_le to within) c.requires.room.width in
     let u = read_is value c.loop-col.sums col c.index-sums-col.result c.index-sums-col.is
     (next_in_sums g (goal.at.plus-by_v-requires g c).In-loop-col) in
     let fits = cost_fits g.C.Sum.Amount.MOST p (arcs p) (bound_at c.args.region.now.lo.now)
     (last_at c.args.region.now.hi.now) x col c.args.region.now.start c.args.left
     (get_or (map value c.loop-col.sums) col 0) (cost c.down-down.result)
-    (lt_lt c.requires.row c.requires.end) at c.down-down.ensures.small (c.loop-col.invariant.after col less to) in
+    (lt_lt c.requires.row c.requires.room.end) at c.down-down.ensures.small (c.loop-col.invariant.after col less to) in
     sum_eq _ _ _ _ u fits
 
 pub plus-by_h-requires : goal.plus-by_h-requires
@@ -69,11 +69,11 @@ plus-by_h-requires g c =
     let cost = g.C.Cost.value in
     let col = c.loop-col.col in
     let to : col < last_at c.args.region.now.hi.now x = lt_eq c.loop-col-test.true (sym c.requires.last) in
-    let at : col < cols p = lt_up (lt_up to (c.args.region.now.shape.within x)) c.requires.width in
+    let at : col < cols p = lt_up (lt_up to (c.args.region.now.shape.within x)) c.requires.room.width in
     on_fits g.C.Sum.Amount.MOST p (arcs p) (bound_at c.args.region.now.lo.now) (last_at c.args.region.now.hi.now)
     c.args.region.now.start c.args.left (x + 1) col (value c.loop-col.sum) (cost c.right-right.result)
     (map value c.loop-col.sums)
-    (le_lt (next_le c.requires.row) c.requires.end) (lt_le at)
+    (le_lt (next_le c.requires.row) c.requires.room.end) (lt_le at)
     (le_to c.right-right.ensures.small (ap (largest g.C.Sum.Amount.MOST) c.requires.strip))
     (le_le c.requires.from c.loop-col.auto.col) c.loop-col.invariant.reached
 

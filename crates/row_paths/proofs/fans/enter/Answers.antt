@@ -16,7 +16,7 @@ in_width : (g : given.Over) (c : Start g) → c.args.first ≤ c.args.region.now
 in_width g c = le_le c.requires.within (c.args.region.now.shape.within c.args.above.now.row)
 
 in_sums : (g : given.Over) (c : Start g) → c.args.first < length c.args.sums.now
-in_sums g c = le_lt (in_width g c) c.requires.sums
+in_sums g c = le_lt (in_width g c) c.requires.room.sums
 
 pub plus-sum-requires : goal.plus-sum-requires
 plus-sum-requires g c =
@@ -30,7 +30,8 @@ plus-sum-requires g c =
     let fits = cost_fits g.C.Sum.Amount.MOST p (arcs p) (bound_at c.args.region.now.lo.now)
     (last_at c.args.region.now.hi.now) x first c.args.region.now.start c.args.left
     (get_or (map value c.args.sums.now) first 0) (cost c.down-down.result)
-    (lt_lt c.requires.row c.requires.end) (le_le (in_width g (goal.at.plus-sum-requires g c).Start) c.requires.width)
+    (lt_lt c.requires.row c.requires.room.end)
+    (le_le (in_width g (goal.at.plus-sum-requires g c).Start) c.requires.room.width)
     c.down-down.ensures.small
     (c.requires.reached first (max_sinks _ _ _ _ c.requires.first (c.args.region.now.shape.sinks x)) c.requires.within)
     in
@@ -61,7 +62,7 @@ returns g c =
     }
 
 pub down-down-requires : goal.down-down-requires
-down-down-requires g c = le_le (in_width g (goal.at.down-down-requires g c).Start) c.requires.width
+down-down-requires g c = le_le (in_width g (goal.at.down-down-requires g c).Start) c.requires.room.width
 
 pub bounds-sums-first : goal.bounds-sums-first
 bounds-sums-first g c = in_sums g (goal.at.bounds-sums-first g c).Start

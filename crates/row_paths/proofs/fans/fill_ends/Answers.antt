@@ -26,7 +26,7 @@ loop-row-init g c =
           (map g.C.Sum.Amount.value c.first_row.new.sums) (map g.C.Sum.Amount.value c.args.ends.now)
           (g.C.Sum.Amount.value c.index-sums-width.result)
           (read_is g.C.Sum.Amount.value c.first_row.new.sums c.args.region.now.width c.index-sums-width.result
-          c.index-sums-width.is (lt_eq c.requires.sums c.first_row.auto.sums))
+          c.index-sums-width.is (lt_eq c.requires.room.sums c.first_row.auto.sums))
           (lt_eq (le_lt c.args.region.now.order c.requires.ends) (length-map c.args.ends.now g.C.Sum.Amount.value))
           (max_up (le_le c.requires.from c.requires.left) c.requires.left) reached);
       left = c.requires.left;
@@ -62,7 +62,7 @@ loop-row-preserved g c =
     ∙ length-set c.args.ends.now i c.index-sums-width.result in
     let last = read_is g.C.Sum.Amount.value c.next_row.new.sums c.args.region.now.width
     c.index-sums-width-in-loop-row.result c.index-sums-width-in-loop-row.is
-    (lt_eq (lt_eq (lt_eq c.requires.sums c.first_row.auto.sums) c.loop-row.auto.sums) c.next_row.auto.sums) in
+    (lt_eq (lt_eq (lt_eq c.requires.room.sums c.first_row.auto.sums) c.loop-row.auto.sums) c.next_row.auto.sums) in
     let left : j ≤ hi (row + 1) = le_le c.loop-row.invariant.left (c.args.region.now.shape.rises row) in
     record {
       reached = reached;
@@ -90,25 +90,22 @@ returns-clause-count g c =
     (k + 1 - c.args.region.now.start)) e)
 
 pub row-from-requires : goal.row-from-requires
-row-from-requires g c = le_lt c.args.region.now.order c.requires.end
+row-from-requires g c = le_lt c.args.region.now.order c.requires.room.end
 
-pub first_row-requires-clause-end : goal.first_row-requires-clause-end
-first_row-requires-clause-end g c = rw c.row-from.ensures.strip c.requires.end
-
-pub first_row-requires-clause-width : goal.first_row-requires-clause-width
-first_row-requires-clause-width g c = rw c.row-from.ensures.strip c.requires.width
+pub first_row-requires-clause-room : goal.first_row-requires-clause-room
+first_row-requires-clause-room g c = rw c.row-from.ensures.strip c.requires.room
 
 pub bounds-sums-width : goal.bounds-sums-width
-bounds-sums-width g c = lt_eq c.requires.sums c.first_row.auto.sums
+bounds-sums-width g c = lt_eq c.requires.room.sums c.first_row.auto.sums
 
 pub bounds-ends-region : goal.bounds-ends-region
 bounds-ends-region g c = le_lt c.args.region.now.order c.requires.ends
 
 pub row-above-requires : goal.row-above-requires
-row-above-requires g c = lt_lt c.loop-row-test.true c.requires.end
+row-above-requires g c = lt_lt c.loop-row-test.true c.requires.room.end
 
 pub row-from-requires-in-loop-row : goal.row-from-requires-in-loop-row
-row-from-requires-in-loop-row g c = le_lt (next_le c.loop-row-test.true) c.requires.end
+row-from-requires-in-loop-row g c = le_lt (next_le c.loop-row-test.true) c.requires.room.end
 
 pub next_row-requires-clause-strip : goal.next_row-requires-clause-strip
 next_row-requires-clause-strip g c = c.row-from-in-loop-row.ensures.strip ∙ sym c.row-above.ensures.strip
@@ -117,14 +114,9 @@ pub next_row-requires-clause-next : goal.next_row-requires-clause-next
 next_row-requires-clause-next g c = c.row-from-in-loop-row.ensures.row
     ∙ ap (λ (k : ℕ). k + 1) (sym c.row-above.ensures.row)
 
-pub next_row-requires-clause-end : goal.next_row-requires-clause-end
-next_row-requires-clause-end g c = rw c.row-above.ensures.strip c.requires.end
-
-pub next_row-requires-clause-width : goal.next_row-requires-clause-width
-next_row-requires-clause-width g c = rw c.row-above.ensures.strip c.requires.width
-
-pub next_row-requires-clause-sums : goal.next_row-requires-clause-sums
-next_row-requires-clause-sums g c = lt_eq (lt_eq c.requires.sums c.first_row.auto.sums) c.loop-row.auto.sums
+pub next_row-requires-clause-room : goal.next_row-requires-clause-room
+next_row-requires-clause-room g c =
+    rw (c.row-above.ensures.strip, c.loop-row.auto.sums, c.first_row.auto.sums) c.requires.room
 
 pub next_row-requires-clause-above : goal.next_row-requires-clause-above
 next_row-requires-clause-above g c = le_eq c.loop-row.auto.row c.row-above.ensures.row
@@ -138,7 +130,7 @@ next_row-requires-clause-left g c =
 
 pub bounds-sums-width-in-loop-row : goal.bounds-sums-width-in-loop-row
 bounds-sums-width-in-loop-row g c =
-    lt_eq (lt_eq (lt_eq c.requires.sums c.first_row.auto.sums) c.loop-row.auto.sums) c.next_row.auto.sums
+    lt_eq (lt_eq (lt_eq c.requires.room.sums c.first_row.auto.sums) c.loop-row.auto.sums) c.next_row.auto.sums
 
 pub bounds-ends-row : goal.bounds-ends-row
 bounds-ends-row g c = lt_eq (le_lt (next_le c.loop-row-test.true) c.requires.ends)

@@ -18,7 +18,7 @@ go_on-requires-clause-reached g c =
     c.requires.row (le_same c.args.left)
     (rw (map-set, c.none.ensures) (begun (largest g.C.Sum.Amount.MOST p) (arcs p) lo hi i c.args.left
     (map g.C.Sum.Amount.value c.args.sums.now)
-    (lt_eq (le_lt (le_le c.requires.left (c.args.region.now.shape.within i)) c.requires.sums)
+    (lt_eq (le_lt (le_le c.requires.left (c.args.region.now.shape.within i)) c.requires.room.sums)
     (length-map c.args.sums.now g.C.Sum.Amount.value))))
 
 pub returns-clause-reached : goal.returns-clause-reached
@@ -38,7 +38,7 @@ bounds-region-row g c = row_in (c.row-row.ensures ∙ c.requires.row) c.args.reg
 
 pub bounds-sums-left : goal.bounds-sums-left
 bounds-sums-left g c = le_lt (le_le c.requires.left (c.args.region.now.shape.within c.args.region.now.start))
-    c.requires.sums
+    c.requires.room.sums
 
 pub go_on-requires-clause-above : goal.go_on-requires-clause-above
 go_on-requires-clause-above g c = eq_up (sym c.requires.row)

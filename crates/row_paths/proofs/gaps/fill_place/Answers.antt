@@ -104,10 +104,15 @@ room w n a b e le f = omega arith
 last : (q m r a b : ℕ) → q + 2 ≤ 2 * m → r ≡ m → 2 * m ≤ a → b ≡ a → (q + 1) / 2 + r < b
 last q m r a b le e le' f = omega arith
 
-pub fill_ends-requires-clause-sums : goal.fill_ends-requires-clause-sums
-fill_ends-requires-clause-sums g c =
-    room c.cols-width.result (cols c.args.strip.now) _ _ c.cols-width.ensures.value c.fill_table.ensures.table.sums
-    (ap length c.deref_mut.ensures.value)
+pub fill_ends-requires-clause-room : goal.fill_ends-requires-clause-room
+fill_ends-requires-clause-room g c =
+    let m' : c.rows-rows.result ≡ rows c.args.strip.now = search rules in
+    record {
+      end = omega (arith, m', c.requires.gap.last);
+      width = omega (arith, c.cols-width.ensures.value);
+      sums = room c.cols-width.result (cols c.args.strip.now) _ _ c.cols-width.ensures.value
+          c.fill_table.ensures.table.sums (ap length c.deref_mut.ensures.value);
+    }
 
 pub fill_ends-requires-clause-ends : goal.fill_ends-requires-clause-ends
 fill_ends-requires-clause-ends g c =

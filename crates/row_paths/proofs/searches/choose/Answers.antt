@@ -26,7 +26,7 @@ lo_is g c = bound_next c.args.region.now.lo.now c.args.from.now.row c.row-row.re
 
 last_in_sums : (g : given.Over) (c : After-row-row g)
     → get_or c.args.region.now.hi.now (c.row-row.result + 1) 0 < length c.args.sums.now
-last_in_sums g c = bound_in (hi_is g c) (c.args.region.now.shape.within c.args.from.now.row) c.requires.sums
+last_in_sums g c = bound_in (hi_is g c) (c.args.region.now.shape.within c.args.from.now.row) c.requires.room.sums
 
 -- a column of the loop is before the row's last one, in the region and in the sums
 before_last : (g : given.Over) (c : In-loop-col g)
@@ -40,7 +40,7 @@ in_width : (g : given.Over) (c : In-loop-col g) → c.loop-col.col - 1 < c.args.
 in_width g c = lt_up (before_last g c) (c.args.region.now.shape.within c.args.from.now.row)
 
 in_sums : (g : given.Over) (c : In-loop-col g) → c.loop-col.col - 1 < length c.loop-col.sums
-in_sums g c = lt_eq (lt_lt (in_width g c) c.requires.sums) c.loop-col.auto.sums
+in_sums g c = lt_eq (lt_lt (in_width g c) c.requires.room.sums) c.loop-col.auto.sums
 
 pub bounds-sums-last : goal.bounds-sums-last
 bounds-sums-last g c = last_in_sums g (goal.at.bounds-sums-last g c).After-row-row
@@ -53,11 +53,11 @@ bounds-sums-col-in-loop-col g c = in_sums g (goal.at.bounds-sums-col-in-loop-col
 
 pub down-down-requires : goal.down-down-requires
 down-down-requires g c =
-    lt_le (lt_up (in_width g (goal.at.down-down-requires g c).In-loop-col) c.requires.width)
+    lt_le (lt_up (in_width g (goal.at.down-down-requires g c).In-loop-col) c.requires.room.width)
 
 pub right-right-requires : goal.right-right-requires
 right-right-requires g c =
-    lt_up (in_width g (goal.at.right-right-requires g c).In-loop-col) c.requires.width
+    lt_up (in_width g (goal.at.right-right-requires g c).In-loop-col) c.requires.room.width
 
 pub plus-by_v-requires : goal.plus-by_v-requires
 plus-by_v-requires g c =
@@ -75,7 +75,7 @@ plus-by_v-requires g c =
     (in_sums g (goal.at.plus-by_v-requires g c).In-loop-col) in
     let below = c.loop-col.invariant.below col (col_from lo_is' c.loop-col-test.true) (col_less c.loop-col-test.true) in
     let fits = cost_fits g.C.Sum.Amount.MOST p (arcs p) lo hi end n (x + 1) col
-    (get_or (map value c.loop-col.sums) col 0) (cost c.down-down.result) c.requires.end c.requires.width
+    (get_or (map value c.loop-col.sums) col 0) (cost c.down-down.result) c.requires.room.end c.requires.room.width
     c.down-down.ensures.small below in
     sum_eq _ _ _ _ u fits
 
@@ -88,7 +88,7 @@ plus-by_h-requires g c =
     filled_fits g.C.Sum.Amount.MOST p (arcs p) (bound_at c.args.region.now.lo.now) (last_at c.args.region.now.hi.now)
     c.args.region.now.end c.args.region.now.width x c.loop-col.col (value c.loop-col.cost)
     (cost c.right-right.result)
-    (map value c.loop-col.sums) c.args.ways.now c.loop-col.ways c.requires.end c.requires.width
+    (map value c.loop-col.sums) c.args.ways.now c.loop-col.ways c.requires.room.end c.requires.room.width
     (le_eq c.loop-col.auto.col (hi_is g (goal.at.plus-by_h-requires g c).After-row-row)) c.right-right.ensures.small
     c.loop-col.invariant.filled
 
@@ -168,7 +168,7 @@ loop-col-init g c =
       filled = filled_first g.C.Sum.Amount.value (largest g.C.Sum.Amount.MOST p) (arcs p)
           (bound_at c.args.region.now.lo.now) hi c.args.region.now.end c.args.region.now.width x (hi x) last
           c.args.sums.now c.index-sums-last.result c.args.ways.now hi_is' c.index-sums-last.is
-          (bound_in hi_is' (c.args.region.now.shape.within c.args.from.now.row) c.requires.sums) c.requires.right
+          (bound_in hi_is' (c.args.region.now.shape.within c.args.from.now.row) c.requires.room.sums) c.requires.right
           c.requires.known;
       below = λ k from to. c.requires.below k from (lt_eq to hi_is');
       low = low_first first last;

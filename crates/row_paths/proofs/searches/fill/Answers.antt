@@ -24,7 +24,7 @@ loop-k-init g c =
     (map value c.fill_end.new.sums) c.fill_end.new.ways (sym c.row-from.ensures.strip) all c.fill_end.ensures.costs
     c.fill_end.ensures.ways in
     let first = read_is value c.fill_end.new.sums 0 c.index-sums-0.result c.index-sums-0.is
-    (omega (arith, c.requires.sums, c.fill_end.auto.sums)) in
+    (omega (arith, c.requires.room.sums, c.fill_end.auto.sums)) in
     record {
       costs = filled.0;
       starts = rw map-set (starts_first b (arcs p) lo hi end n (end - 0) (map value c.fill_end.new.sums)
@@ -41,20 +41,12 @@ loop-k-init g c =
       );
     }
 
-pub fill_end-requires-clause-end : goal.fill_end-requires-clause-end
-fill_end-requires-clause-end g c = rw c.row-from.ensures.strip c.requires.end
+pub fill_end-requires-clause-room : goal.fill_end-requires-clause-room
+fill_end-requires-clause-room g c = rw c.row-from.ensures.strip c.requires.room
 
-pub fill_end-requires-clause-width : goal.fill_end-requires-clause-width
-fill_end-requires-clause-width g c = rw c.row-from.ensures.strip c.requires.width
-
-pub fill_row-requires-clause-end : goal.fill_row-requires-clause-end
-fill_row-requires-clause-end g c = rw c.row-from-in-loop-k.ensures.strip c.requires.end
-
-pub fill_row-requires-clause-width : goal.fill_row-requires-clause-width
-fill_row-requires-clause-width g c = rw c.row-from-in-loop-k.ensures.strip c.requires.width
-
-pub fill_row-requires-clause-sums : goal.fill_row-requires-clause-sums
-fill_row-requires-clause-sums g c = rw (c.loop-k.auto.sums, c.fill_end.auto.sums) c.requires.sums
+pub fill_row-requires-clause-room : goal.fill_row-requires-clause-room
+fill_row-requires-clause-room g c =
+    rw (c.row-from-in-loop-k.ensures.strip, c.loop-k.auto.sums, c.fill_end.auto.sums) c.requires.room
 
 pub fill_row-requires-clause-ways : goal.fill_row-requires-clause-ways
 fill_row-requires-clause-ways g c = rw (c.loop-k.auto.ways, c.fill_end.auto.ways) c.requires.ways
@@ -93,7 +85,7 @@ loop-k-preserved g c =
     let size : length (map value c.loop-k.starts) ≡ length c.args.starts.now = length-map c.loop-k.starts value
     ∙ c.loop-k.auto.starts ∙ length-set c.args.starts.now end c.index-sums-0.result in
     let first = read_is value c.fill_row.new.sums 0 c.index-sums-0-in-loop-k.result c.index-sums-0-in-loop-k.is
-    (omega (arith, c.requires.sums, c.fill_row.auto.sums, c.loop-k.auto.sums, c.fill_end.auto.sums)) in
+    (omega (arith, c.requires.room.sums, c.fill_row.auto.sums, c.loop-k.auto.sums, c.fill_end.auto.sums)) in
     record {
       costs = rw next filled.0;
       starts = rw (next, map-set) (starts_more b (arcs p) lo hi end n x (end - c.loop-k.k)
@@ -132,17 +124,17 @@ returns-clause-count g c = all_up (bound_at c.args.region.now.lo.now) (last_at c
     (omega (arith, c.loop-k-test.false, c.loop-k.auto.k-end)) c.loop-k.invariant.count
 
 pub bounds-sums-0 : goal.bounds-sums-0
-bounds-sums-0 g c = some_of (lt_eq c.requires.sums c.fill_end.auto.sums)
+bounds-sums-0 g c = some_of (lt_eq c.requires.room.sums c.fill_end.auto.sums)
 
 pub bounds-starts-region : goal.bounds-starts-region
 bounds-starts-region g c = c.requires.starts
 
 pub row-from-requires-in-loop-k : goal.row-from-requires-in-loop-k
-row-from-requires-in-loop-k g c = back_in c.loop-k.k c.requires.end
+row-from-requires-in-loop-k g c = back_in c.loop-k.k c.requires.room.end
 
 pub bounds-sums-0-in-loop-k : goal.bounds-sums-0-in-loop-k
 bounds-sums-0-in-loop-k g c = some_of
-    (lt_eq (lt_eq (lt_eq c.requires.sums c.fill_end.auto.sums) c.loop-k.auto.sums) c.fill_row.auto.sums)
+    (lt_eq (lt_eq (lt_eq c.requires.room.sums c.fill_end.auto.sums) c.loop-k.auto.sums) c.fill_row.auto.sums)
 
 pub bounds-starts-row : goal.bounds-starts-row
 bounds-starts-row g c = lt_eq (back_in c.loop-k.k c.requires.starts)

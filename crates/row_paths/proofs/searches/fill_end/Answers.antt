@@ -26,7 +26,7 @@ ended_in g c =
     (last_at c.args.region.now.hi.now) c.args.region.now.end w c.args.from.now.row (c.row-row.result * (w + 1) + w)
     (map value c.args.sums.now) c.args.ways.now c.requires.row
     (ap (last_at c.args.region.now.hi.now) c.requires.row ∙ c.args.region.now.shape.ends)
-    (lt_eq c.requires.sums (length-map c.args.sums.now value)) (ap (λ (k : ℕ). k * (w + 1) + w) c.row-row.ensures)
+    (lt_eq c.requires.room.sums (length-map c.args.sums.now value)) (ap (λ (k : ℕ). k * (w + 1) + w) c.row-row.ensures)
     (place_fits c.row-row.result c.args.region.now.end w w w (length c.args.ways.now) refl
     (eq_le c.row-row.ensures (eq_up c.requires.row)) (le_same w) c.requires.ways)
 
@@ -64,7 +64,7 @@ returns-clause-ways g c = λ k from to.
     (c.go_right.ensures.ways k (omega (arith, first, from)) (omega (arith, to, to')))
 
 pub bounds-sums-region : goal.bounds-sums-region
-bounds-sums-region g c = c.requires.sums
+bounds-sums-region g c = c.requires.room.sums
 
 pub bounds-ways-at : goal.bounds-ways-at
 bounds-ways-at g c = place_fits c.row-row.result c.args.region.now.end c.args.region.now.width c.args.region.now.width

@@ -18,9 +18,13 @@ wide end w r n a b lt le room e =
     let less : (w + 1) * (end + 1) ≤ (n + 1) * (end + 1) = mul-le-mul_right (end + 1) (omega arith) in
     omega (arith, more, less)
 
-pub fill-requires-clause-sums : goal.fill-requires-clause-sums
-fill-requires-clause-sums g c = narrow c.args.region.now.width (cols c.args.strip.now) _ _ c.requires.width
-    c.requires.table.sums (ap length c.deref_mut.ensures.value)
+pub fill-requires-clause-room : goal.fill-requires-clause-room
+fill-requires-clause-room g c = record {
+  end = c.requires.end;
+  width = c.requires.width;
+  sums = narrow c.args.region.now.width (cols c.args.strip.now) _ _ c.requires.width c.requires.table.sums
+      (ap length c.deref_mut.ensures.value);
+}
 
 pub fill-requires-clause-ways : goal.fill-requires-clause-ways
 fill-requires-clause-ways g c = wide c.args.region.now.end c.args.region.now.width (2 * rows c.args.strip.now)

@@ -23,7 +23,7 @@ in_width g c = bound_upto (hi_is g c) (c.args.region.now.shape.within c.args.fro
 
 in_sums : (g : given.Over) (c : After-row-row g)
     → get_or c.args.region.now.hi.now (c.row-row.result + 1) 0 < length c.args.sums.now
-in_sums g c = le_lt (in_width g c) c.requires.sums
+in_sums g c = le_lt (in_width g c) c.requires.room.sums
 
 pub bounds-sums-last : goal.bounds-sums-last
 bounds-sums-last g c = in_sums g (goal.at.bounds-sums-last g c).After-row-row
@@ -32,7 +32,7 @@ pub bounds-sums-last-2 : goal.bounds-sums-last-2
 bounds-sums-last-2 g c = in_sums g (goal.at.bounds-sums-last-2 g c).After-row-row
 
 pub down-down-requires : goal.down-down-requires
-down-down-requires g c = le_le (in_width g (goal.at.down-down-requires g c).After-row-row) c.requires.width
+down-down-requires g c = le_le (in_width g (goal.at.down-down-requires g c).After-row-row) c.requires.room.width
 
 pub bounds-ways-at : goal.bounds-ways-at
 bounds-ways-at g c =
@@ -50,14 +50,14 @@ plus-cost-requires g c =
     let hi_is' = hi_is g (goal.at.plus-cost-requires g c).After-row-row in
     let last : ℕ = get_or c.args.region.now.hi.now (c.row-row.result + 1) 0 in
     let at = in_width g (goal.at.plus-cost-requires g c).After-row-row in
-    let u = read_is value c.args.sums.now last c.index-sums-last.result c.index-sums-last.is (le_lt at c.requires.sums)
-    in
+    let u = read_is value c.args.sums.now last c.index-sums-last.result c.index-sums-last.is
+    (le_lt at c.requires.room.sums) in
     let below = c.requires.below last (le_eq (c.args.region.now.shape.joined x) (sym hi_is'))
     (eq_le (sym hi_is') (c.args.region.now.shape.rises x)) in
     let fits = cost_fits g.C.Sum.Amount.MOST p (arcs p) (bound_at c.args.region.now.lo.now)
     (last_at c.args.region.now.hi.now) c.args.region.now.end c.args.region.now.width (x + 1) last
     (get_or (map value c.args.sums.now) last 0) (cost c.down-down.result)
-    c.requires.end c.requires.width c.down-down.ensures.small below in
+    c.requires.room.end c.requires.room.width c.down-down.ensures.small below in
     sum_eq _ _ _ _ u fits
 
 pub returns : goal.returns
@@ -70,8 +70,8 @@ returns g c =
     let hi_is' = hi_is g (goal.at.returns g c).After-row-row in
     let last : ℕ = get_or c.args.region.now.hi.now (c.row-row.result + 1) 0 in
     let at = in_width g (goal.at.returns g c).After-row-row in
-    let u = read_is value c.args.sums.now last c.index-sums-last.result c.index-sums-last.is (le_lt at c.requires.sums)
-    in
+    let u = read_is value c.args.sums.now last c.index-sums-last.result c.index-sums-last.is
+    (le_lt at c.requires.room.sums) in
     let v = c.down-down.ensures.value in
     let sum : value c.plus-cost.result ≡ get_or (map value c.args.sums.now) last 0 + cost c.down-down.result =
     c.plus-cost.ensures ∙ ap (λ (k : ℕ). k + cost c.down-down.result) u in
@@ -80,7 +80,7 @@ returns g c =
     let gone = gone_down (largest g.C.Sum.Amount.MOST p) (arcs p) (bound_at c.args.region.now.lo.now)
     (last_at c.args.region.now.hi.now) c.args.region.now.end n x last (c.row-row.result * (n + 1) + last)
     (cost c.down-down.result) (map value c.args.sums.now) c.args.ways.now
-    (sym hi_is') (lt_eq (le_lt at c.requires.sums) (length-map c.args.sums.now value))
+    (sym hi_is') (lt_eq (le_lt at c.requires.room.sums) (length-map c.args.sums.now value))
     (place_of x c.row-row.result last n n c.row-row.ensures refl) fits c.requires.row at
     (c.args.region.now.shape.rises x) (c.args.region.now.shape.joined x) v c.down-down.ensures.small c.requires.below in
     record {

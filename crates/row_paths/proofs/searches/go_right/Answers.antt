@@ -16,7 +16,7 @@ plus-cost-requires g c =
     filled_fits g.C.Sum.Amount.MOST p (arcs p) (bound_at c.args.region.now.lo.now) (last_at c.args.region.now.hi.now)
     c.args.region.now.end c.args.region.now.width x c.loop-col.col (g.C.Sum.Amount.value c.loop-col.cost)
     (cost c.right-right.result)
-    (map g.C.Sum.Amount.value c.loop-col.sums) c.args.ways.now c.loop-col.ways c.requires.end c.requires.width
+    (map g.C.Sum.Amount.value c.loop-col.sums) c.args.ways.now c.loop-col.ways c.requires.room.end c.requires.room.width
     (le_le c.loop-col.auto.col c.requires.last) c.right-right.ensures.small c.loop-col.invariant.filled
 
 pub bounds-ways-at : goal.bounds-ways-at
@@ -49,7 +49,7 @@ loop-col-preserved g c =
       filled = rw (map-set, c.plus-cost.ensures)
           (filled_right b (arcs p) lo hi end n x col (c.row.result * (n + 1) + col) (value c.loop-col.cost)
           (cost c.right-right.result) (map value c.loop-col.sums) c.args.ways.now c.loop-col.ways
-          (lt_eq (lt_eq (lt_lt (lt_up to within) c.requires.sums) c.loop-col.auto.sums)
+          (lt_eq (lt_eq (lt_lt (lt_up to within) c.requires.room.sums) c.loop-col.auto.sums)
           (length-map c.loop-col.sums value)) (place_of x c.row.result col n n c.row.ensures refl) fits to within
           (c.requires.shut col (col_below c.loop-col-test.true c.loop-col.auto.col)) v c.right-right.ensures.small
           (filled_at b (arcs p) lo hi end n x c.loop-col.col (col + 1) (value c.loop-col.cost)
@@ -70,16 +70,16 @@ returns-clause-count g c = left_done _ _ _ _ _ c.loop-col.invariant.count c.loop
 
 pub bounds-sums-last : goal.bounds-sums-last
 bounds-sums-last g c = le_lt (le_le c.requires.last (c.args.region.now.shape.within c.args.from.now.row))
-    c.requires.sums
+    c.requires.room.sums
 
 pub right-right-requires : goal.right-right-requires
 right-right-requires g c = lt_up (lt_up (col_below c.loop-col-test.true (le_le c.loop-col.auto.col c.requires.last))
-    (c.args.region.now.shape.within c.args.from.now.row)) c.requires.width
+    (c.args.region.now.shape.within c.args.from.now.row)) c.requires.room.width
 
 pub bounds-sums-col : goal.bounds-sums-col
 bounds-sums-col g c = lt_eq (lt_lt
     (lt_up (col_below c.loop-col-test.true (le_le c.loop-col.auto.col c.requires.last))
-    (c.args.region.now.shape.within c.args.from.now.row)) c.requires.sums) c.loop-col.auto.sums
+    (c.args.region.now.shape.within c.args.from.now.row)) c.requires.room.sums) c.loop-col.auto.sums
 
 pub loop-col-init : goal.loop-col-init
 loop-col-init g c =
@@ -89,7 +89,7 @@ loop-col-init g c =
           (bound_at c.args.region.now.lo.now) (last_at c.args.region.now.hi.now) c.args.region.now.end
           c.args.region.now.width c.args.from.now.row c.args.last c.args.last c.args.sums.now c.index-sums-last.result
           c.args.ways.now refl c.index-sums-last.is
-          (le_lt (le_le c.requires.last (c.args.region.now.shape.within c.args.from.now.row)) c.requires.sums)
+          (le_lt (le_le c.requires.last (c.args.region.now.shape.within c.args.from.now.row)) c.requires.room.sums)
           c.requires.right c.requires.known;
       low = low_first c.args.first c.args.last;
       count = none_left c.args.steps.now c.args.last;
@@ -101,12 +101,12 @@ returns-clause-rest g c = c.loop-col.invariant.filled.rest
 pub offset_bounds-sums-last : goal.offset_bounds-sums-last
 offset_bounds-sums-last g c =
     let at : c.args.last < length c.args.sums.now =
-    le_lt (le_le c.requires.last (c.args.region.now.shape.within c.args.from.now.row)) c.requires.sums in
+    le_lt (le_le c.requires.last (c.args.region.now.shape.within c.args.from.now.row)) c.requires.room.sums in
     search (rules, at)
 
 pub offset_bounds-sums-col : goal.offset_bounds-sums-col
 offset_bounds-sums-col g c =
     let at : c.loop-col.col - 1 < length c.loop-col.sums =
     lt_eq (lt_lt (lt_up (col_below c.loop-col-test.true (le_le c.loop-col.auto.col c.requires.last))
-    (c.args.region.now.shape.within c.args.from.now.row)) c.requires.sums) c.loop-col.auto.sums in
+    (c.args.region.now.shape.within c.args.from.now.row)) c.requires.room.sums) c.loop-col.auto.sums in
     search (rules, at)
