@@ -15,9 +15,6 @@ use Rattle.mesh_measures.proofs.Tallies.{count-cons}
 pub le_is : (a b : ℤ) → int_le a b ≡ true → a ≤ℤ b
 le_is a b e = grind (arith, ints)
 
-le_test : (a b : ℤ) → a ≤ℤ b → int_le a b ≡ true
-le_test a b h = sym (let k : true ≡ int_le a b = omega (arith, ints) in k)
-
 pub not_less_is : (a b : ℤ) → int_lt a b ≡ false → b ≤ℤ a
 not_less_is a b e = grind (arith, ints)
 

@@ -32,10 +32,6 @@ pub tally_next : (xs : List Boxed) (n : ℕ) (e : Boxed) (i : ℕ) → n < lengt
     → tally (drop n xs) i ≡ share (get_or xs n e) (drop (n + 1) xs) i + tally (drop (n + 1) xs) i
 tally_next xs n e i l = ap (λ (ys : List Boxed). tally ys i) (next_is xs n e l)
 
-pub pairs_next : (xs : List Boxed) (n : ℕ) (e : Boxed) → n < length xs
-    → crossing_pairs (boxed_corners (drop n xs)) ≡ crossing_pairs (boxed_corners (get_or xs n e ∷ drop (n + 1) xs))
-pairs_next xs n e l = ap (λ (ys : List Boxed). crossing_pairs (boxed_corners ys)) (next_is xs n e l)
-
 -- there is room for what the later triangles add to a count
 pub room_rest : (xs : List Boxed) (n : ℕ) (e : Boxed) (i have most : ℕ) → n < length xs
     → have + tally (drop n xs) i < most → have + count_by (crosses_at (get_or xs n e) i) (drop (n + 1) xs) < most

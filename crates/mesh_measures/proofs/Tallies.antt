@@ -27,9 +27,6 @@ HasCorners i s f = f.place ≡ i → f.corners ≡ s
 abbrev pub has_place : ℕ → Boxed → Bool
 has_place i f = f.place == i
 
-add_one : (a b c d : ℕ) → a ≡ 1 + b → c ≡ 1 + d → b ≡ d → a ≡ c
-add_one a b c d e f g = omega arith
-
 either_way : (b : Bool) (n : ℕ) → n ≡ cond b n n
 either_way true n = refl
 either_way false n = refl
