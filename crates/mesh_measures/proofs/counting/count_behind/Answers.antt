@@ -1,11 +1,13 @@
-use Rattle.std.proofs.Common.{◌≡◌, ◌≤◌, ◌<◌, ℕ, length, take, drop, arith, sym, subst, All, ℤ, ◌≤ℤ◌, unsigned_abs, to_z, of_z, w32, List}
+use Rattle.std.proofs.Common.{◌≡◌, ◌≤◌, ◌<◌, ◌+◌, Bool, false, ℕ, length, take, arith, sym, subst, All, ℤ, ◌≤ℤ◌, unsigned_abs, to_z, of_z, w32, List}
 use Rattle.std.proofs.lemmas.List.Sums.{count_by-le-length}
+use Rattle.std.specs.List.{count_by}
 use Rattle.std.proofs.lemmas.List.Elements.{All-take, All-drop}
 use Rattle.plane_geom.proofs.Signed.{passed_i32}
 use Rattle.mesh_measures.specs.declared.triangle_boxes.Boxed.{Boxed}
 use Rattle.mesh_measures.specs.TriangleBoxes.{IsBoxed, crosses, crosses_at, x_of, z_of, RisesBy, LiesPast}
-use Rattle.mesh_measures.proofs.Layers.{level_rises, higher_rises, Scan, scanned, only_crossed}
+use Rattle.mesh_measures.proofs.Layers.{level_rises, higher_rises, scanned, only_crossed}
 use Rattle.mesh_measures.proofs.counting.count_behind.Goals as goal
+use Rattle.mesh_measures.proofs.counting.count_behind.Goals.{After-low_end-low}
 
 -- a height passed to a call is itself
 at_height : (y z : ℤ) → unsigned_abs z ≤ 999999 → y ≤ℤ to_z w32 (of_z w32 z) → y ≤ℤ z
@@ -15,18 +17,24 @@ past : (f : Boxed → ℤ) (z : ℤ) (xs : List Boxed) (n : ℕ) → unsigned_ab
     → LiesPast f (to_z w32 (of_z w32 z)) xs n → LiesPast f z xs n
 past f z xs n h k = subst (λ (m : ℤ). LiesPast f m xs n) (passed_i32 z h) k
 
-scan : (e : Boxed) (xs level higher : List Boxed) (n near low : ℕ) → IsBoxed e → All IsBoxed xs → level ≡ take n xs
-    → higher ≡ drop n xs
-    → LiesPast x_of (to_z w32 (of_z w32 e.greatest.x)) level near
-    → LiesPast z_of (to_z w32 (of_z w32 e.greatest.z)) higher low → Scan e xs level higher n near low
-scan e xs level higher n near low first boxed front back x z = record {
-  first = first;
-  boxed = boxed;
-  front = front;
-  back = back;
-  x_past = past x_of e.greatest.x level near first.greatest.x x;
-  z_past = past z_of e.greatest.z higher low first.greatest.z z;
-}
+-- those that the two scans look at are all that are crossed
+all : (c : After-low_end-low) (p : Boxed → Bool) → ((f : Boxed) → crosses c.args.first.now f ≡ false → p f ≡ false)
+    → count_by p (take c.near_end-near.result c.split_at.result.0.now)
+    + count_by p (take c.low_end-low.result c.split_at.result.1.now)
+    ≡ count_by p c.args.behind.now
+all c =
+    let e = c.args.first.now in
+    let r = c.requires in
+    let s = c.split_at in
+    scanned e c.args.behind.now s.result.0.now s.result.1.now c.level_end.result c.near_end-near.result
+    c.low_end-low.result (record {
+      first = r.first;
+      boxed = r.boxed;
+      front = s.ensures.front;
+      back = s.ensures.back;
+      x_past = past x_of e.greatest.x s.result.0.now c.near_end-near.result r.first.greatest.x c.near_end-near.ensures.past;
+      z_past = past z_of e.greatest.z s.result.1.now c.low_end-low.result r.first.greatest.z c.low_end-low.ensures.past;
+    })
 
 pub near_end-near-requires : goal.near_end-near-requires
 near_end-near-requires c =
@@ -70,45 +78,32 @@ count_crossed-requires-clause-places c =
 
 pub count_crossed-requires-clause-room : goal.count_crossed-requires-clause-room
 count_crossed-requires-clause-room c = λ i.
-    let e = c.args.first.now in
-    let s = scan e c.args.behind.now c.split_at.result.0.now c.split_at.result.1.now c.level_end.result
-    c.near_end-near.result c.low_end-low.result c.requires.first c.requires.boxed c.split_at.ensures.front
-    c.split_at.ensures.back c.near_end-near.ensures.past c.low_end-low.ensures.past in
-    let all = scanned e c.args.behind.now c.split_at.result.0.now c.split_at.result.1.now c.level_end.result
-    c.near_end-near.result c.low_end-low.result s (crosses_at e i) (only_crossed e i) in
-    let room = c.requires.room i in
-    let before = c.count_crossed-own.ensures.counts i in
-    omega arith
+    let both = all (goal.at.count_crossed-requires-clause-room c).After-low_end-low (crosses_at c.args.first.now i)
+    (only_crossed c.args.first.now i) in
+    omega (arith, both, c.requires.room i, c.count_crossed-own.ensures.counts i)
 
 pub overflow_add-result : goal.overflow_add-result
 overflow_add-result c =
     let e = c.args.first.now in
-    let s = scan e c.args.behind.now c.split_at.result.0.now c.split_at.result.1.now c.level_end.result
-    c.near_end-near.result c.low_end-low.result c.requires.first c.requires.boxed c.split_at.ensures.front
-    c.split_at.ensures.back c.near_end-near.ensures.past c.low_end-low.ensures.past in
-    let all = scanned e c.args.behind.now c.split_at.result.0.now c.split_at.result.1.now c.level_end.result
-    c.near_end-near.result c.low_end-low.result s (crosses e) (λ f h. h) in
-    let few = count_by-le-length (crosses e) c.args.behind.now in
-    omega (arith, c.count_crossed-own.ensures.own, c.count_crossed.ensures.own)
+    omega (
+      arith,
+      all (goal.at.overflow_add-result c).After-low_end-low (crosses e) (λ f h. h),
+      count_by-le-length (crosses e) c.args.behind.now,
+      c.count_crossed-own.ensures.own,
+      c.count_crossed.ensures.own,
+    )
 
 pub returns-clause-own : goal.returns-clause-own
 returns-clause-own c =
-    let e = c.args.first.now in
-    let s = scan e c.args.behind.now c.split_at.result.0.now c.split_at.result.1.now c.level_end.result
-    c.near_end-near.result c.low_end-low.result c.requires.first c.requires.boxed c.split_at.ensures.front
-    c.split_at.ensures.back c.near_end-near.ensures.past c.low_end-low.ensures.past in
-    let all = scanned e c.args.behind.now c.split_at.result.0.now c.split_at.result.1.now c.level_end.result
-    c.near_end-near.result c.low_end-low.result s (crosses e) (λ f h. h) in
-    omega (arith, c.count_crossed-own.ensures.own, c.count_crossed.ensures.own)
+    omega (
+      arith,
+      all (goal.at.returns-clause-own c).After-low_end-low (crosses c.args.first.now) (λ f h. h),
+      c.count_crossed-own.ensures.own,
+      c.count_crossed.ensures.own,
+    )
 
 pub returns-clause-counts : goal.returns-clause-counts
 returns-clause-counts c = λ i.
-    let e = c.args.first.now in
-    let s = scan e c.args.behind.now c.split_at.result.0.now c.split_at.result.1.now c.level_end.result
-    c.near_end-near.result c.low_end-low.result c.requires.first c.requires.boxed c.split_at.ensures.front
-    c.split_at.ensures.back c.near_end-near.ensures.past c.low_end-low.ensures.past in
-    let all = scanned e c.args.behind.now c.split_at.result.0.now c.split_at.result.1.now c.level_end.result
-    c.near_end-near.result c.low_end-low.result s (crosses_at e i) (only_crossed e i) in
-    let before = c.count_crossed-own.ensures.counts i in
-    let after = c.count_crossed.ensures.counts i in
-    omega arith
+    let both = all (goal.at.returns-clause-counts c).After-low_end-low (crosses_at c.args.first.now i)
+    (only_crossed c.args.first.now i) in
+    omega (arith, both, c.count_crossed-own.ensures.counts i, c.count_crossed.ensures.counts i)

@@ -1,20 +1,23 @@
 use Rattle.std.proofs.Common.{◌≡◌, ◌∙◌, ◌<◌, ℕ, List, length, sym, subst, ap, arith, All, slice_index}
 use Rattle.std.specs.List.{range_with_len}
-use Rattle.std.specs.List.Sorted.{IsPermutation}
 use Rattle.std.proofs.lemmas.List.{length-map}
-use Rattle.fku_types.specs.declared.points.Point.{Point}
 use Rattle.std.proofs.lemmas.List.Sorted.{All-permutation}
 use Rattle.mesh_measures.specs.declared.triangle_boxes.Boxed.{Boxed}
 use Rattle.mesh_measures.specs.Crossings.{corners_of, part_corners, crossing_counts, crossing_pairs}
-use Rattle.mesh_measures.specs.TriangleBoxes.{IsBoxed, boxed_corners, places, tally}
+use Rattle.mesh_measures.specs.TriangleBoxes.{IsBoxed, boxed_corners, tally}
 use Rattle.mesh_measures.proofs.Whole.{Made, as_many_sorted, places_below, tally_fits, counts_are, pairs_are, both_ok}
 use Rattle.mesh_measures.proofs.sweep.crossings.Goals as goal
+use Rattle.mesh_measures.proofs.sweep.crossings.Goals.{After-swept-sorted}
 
 -- the boxes of the triangles of a part, and the same in the order of the sweep
-made : (vs : List Point) (ts : List (List ℕ)) (boxes sorted : List Boxed) → boxed_corners boxes ≡ part_corners vs ts
-    → places boxes ≡ range_with_len 0 (length ts) → IsPermutation boxes sorted → Made (part_corners vs ts) boxes sorted
-made vs ts boxes sorted e f moved =
-    record { corners = e; places = f ∙ ap (range_with_len 0) (sym (length-map ts (corners_of vs))); moved = moved }
+made : (c : After-swept-sorted)
+    → Made (part_corners c.args.vertices.now c.args.triangles.now) c.in_ok-boxes.field-0.items c.swept-sorted.result.items
+made c = record {
+  corners = c.in_ok-boxes.ensures.corners;
+  places = c.in_ok-boxes.ensures.places
+      ∙ ap (range_with_len 0) (sym (length-map c.args.triangles.now (corners_of c.args.vertices.now)));
+  moved = c.swept-sorted.ensures.permutation;
+}
 
 pub counted-requires-clause-boxed : goal.counted-requires-clause-boxed
 counted-requires-clause-boxed c =
@@ -24,54 +27,37 @@ counted-requires-clause-boxed c =
 
 pub counted-requires-clause-places : goal.counted-requires-clause-places
 counted-requires-clause-places c =
-    let part = part_corners c.args.vertices.now c.args.triangles.now in
-    let m = made c.args.vertices.now c.args.triangles.now c.in_ok-boxes.field-0.items c.swept-sorted.result.items
-    c.in_ok-boxes.ensures.corners c.in_ok-boxes.ensures.places c.swept-sorted.ensures.permutation in
     subst (λ (xs : List Boxed). All (λ (f : Boxed). f.place < length xs) xs) (sym c.deref.ensures.value)
-    (places_below part _ _ m)
+    (places_below _ _ _ (made (goal.at.counted-requires-clause-places c).After-swept-sorted))
 
 pub counted-requires-clause-few : goal.counted-requires-clause-few
 counted-requires-clause-few c =
-    let part = part_corners c.args.vertices.now c.args.triangles.now in
-    let m = made c.args.vertices.now c.args.triangles.now c.in_ok-boxes.field-0.items c.swept-sorted.result.items
-    c.in_ok-boxes.ensures.corners c.in_ok-boxes.ensures.places c.swept-sorted.ensures.permutation in
     omega (
       arith,
       ap length c.deref.ensures.value,
-      as_many_sorted part _ _ m,
+      as_many_sorted _ _ _ (made (goal.at.counted-requires-clause-few c).After-swept-sorted),
       length-map c.args.triangles.now (corners_of c.args.vertices.now),
       c.requires.few,
     )
 
 pub counted-requires-clause-room : goal.counted-requires-clause-room
 counted-requires-clause-room c =
-    let part = part_corners c.args.vertices.now c.args.triangles.now in
-    let m = made c.args.vertices.now c.args.triangles.now c.in_ok-boxes.field-0.items c.swept-sorted.result.items
-    c.in_ok-boxes.ensures.corners c.in_ok-boxes.ensures.places c.swept-sorted.ensures.permutation in
     subst (λ (xs : List Boxed). (i : ℕ) → tally xs i < 4294967296) (sym c.deref.ensures.value)
-    (tally_fits part _ _ m 4294967296 (omega
+    (tally_fits _ _ _ (made (goal.at.counted-requires-clause-room c).After-swept-sorted) 4294967296 (omega
     (arith, length-map c.args.triangles.now (corners_of c.args.vertices.now), c.requires.few)))
 
 pub returns-clause-counts : goal.returns-clause-counts
 returns-clause-counts c =
-    let part = part_corners c.args.vertices.now c.args.triangles.now in
-    let sorted = c.swept-sorted.result.items in
-    let m = made c.args.vertices.now c.args.triangles.now c.in_ok-boxes.field-0.items c.swept-sorted.result.items
-    c.in_ok-boxes.ensures.corners c.in_ok-boxes.ensures.places c.swept-sorted.ensures.permutation in
     both_ok c.counted.result (λ r. length r.counts.items ≡ length c.deref.result.now)
     (λ r. (i : ℕ) → slice_index r.counts.items i ≡ tally c.deref.result.now i)
-    (λ r. r.counts.items ≡ crossing_counts part) c.counted.ensures.length c.counted.ensures.counts
-    (λ r same is. counts_are part _ sorted m r.counts.items (same ∙ ap length c.deref.ensures.value)
+    (λ r. r.counts.items ≡ crossing_counts _) c.counted.ensures.length c.counted.ensures.counts
+    (λ r same is. counts_are _ _ _ (made (goal.at.returns-clause-counts c).After-swept-sorted) r.counts.items (same ∙ ap length c.deref.ensures.value)
     (λ i. is i ∙ ap (λ (xs : List Boxed). tally xs i) c.deref.ensures.value))
 
 pub returns-clause-pairs : goal.returns-clause-pairs
 returns-clause-pairs c =
-    let part = part_corners c.args.vertices.now c.args.triangles.now in
-    let sorted = c.swept-sorted.result.items in
-    let m = made c.args.vertices.now c.args.triangles.now c.in_ok-boxes.field-0.items c.swept-sorted.result.items
-    c.in_ok-boxes.ensures.corners c.in_ok-boxes.ensures.places c.swept-sorted.ensures.permutation in
     both_ok c.counted.result (λ r. r.pairs ≡ crossing_pairs (boxed_corners c.deref.result.now))
-    (λ r. r.pairs ≡ crossing_pairs (boxed_corners c.deref.result.now)) (λ r. r.pairs ≡ crossing_pairs part)
+    (λ r. r.pairs ≡ crossing_pairs (boxed_corners c.deref.result.now)) (λ r. r.pairs ≡ crossing_pairs _)
     c.counted.ensures.pairs c.counted.ensures.pairs
     (λ r is _. is ∙ ap (λ (xs : List Boxed). crossing_pairs (boxed_corners xs)) c.deref.ensures.value
-    ∙ pairs_are part _ sorted m)
+    ∙ pairs_are _ _ _ (made (goal.at.returns-clause-pairs c).After-swept-sorted))
