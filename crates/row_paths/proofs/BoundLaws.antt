@@ -60,9 +60,6 @@ eq_lt e h = omega arith
 pub some_of : {a b : ℕ} → a < b → 0 < b
 some_of h = omega arith
 
-pub twice_up : {a m m' : ℕ} → a < m' → m' ≡ m → a < 2 * m
-twice_up h e = omega arith
-
 pub back_in : {end len : ℕ} (k : ℕ) → end < len → end - 1 - k < len
 back_in k h = omega arith
 

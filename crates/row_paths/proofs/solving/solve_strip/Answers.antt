@@ -1,4 +1,4 @@
-use Rattle.std.proofs.Common.{rules, arith, ◌≡◌, ℕ, ◌+◌, ◌-◌, ◌*◌, ◌<◌, ◌≤◌, List, length, get_or, refl, ap, sym, ◌∙◌, subst, subst₂}
+use Rattle.std.proofs.Common.{arith, ◌≡◌, ℕ, ◌+◌, ◌-◌, ◌*◌, ◌<◌, ◌≤◌, List, length, get_or, refl, ap, sym, ◌∙◌, subst, subst₂}
 use Rattle.std.proofs.lemmas.List.{get_or_read}
 use Rattle.strip_graph.specs.Strips.{Strip, arcs, rows, cols}
 use Rattle.row_paths.specs.declared.gaps.Gap.{Gap}
