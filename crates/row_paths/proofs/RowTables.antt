@@ -36,6 +36,7 @@ next_rows value b cost p q size i j new from old len e size' same row all =
 pub next_steps : (was old new row size : ℕ) → old ≤ was + row * size → new ≤ old + size → new ≤ was + (row + 1) * size
 next_steps was old new row size count count' = omega (arith, count, count')
 
+-- all rows
 pub all_rows : {C : Type 0} (value : C → ℕ) (b : ℕ) (cost : ℕ → ℕ → ℕ) (size i m m' : ℕ) (xs : List C)
     → length xs ≡ m * size → m' ≤ i → m' ≡ m → AreFirstCosts b cost size (map value (take (i * size) xs))
     → AreFirstCosts b cost size (map value xs)

@@ -20,8 +20,8 @@ last_in g = last_at g.hi.now
 abbrev pub places_in : Region → ℕ
 places_in g = area (first_in g) (last_in g) g.start (g.end + 1 - g.start)
 
--- a search has room: the region's rows are among the strip's rows 0 to 2m - 1, its columns are the strip's, and a list
--- of as many sums has one for each of these columns
+-- a search has room: the region's rows are among rows 0 to 2m - 1 of the strip, its columns are columns of the strip,
+-- and a list of `count` sums has one for each of them
 pub record HasRoom (p : Strip) (g : Region) (count : ℕ) : Type 0 where
   pub end : g.end < 2 * rows p
   pub width : g.width ≤ cols p
