@@ -13,10 +13,11 @@ use Rattle.ring_polygons.specs.Composites.{Bridge, join, join_others}
 use Rattle.ring_polygons.specs.Nearest.{near_at, AreNearest, IsExtended}
 use Rattle.ring_polygons.proofs.BridgeLaws.{join-length}
 use Rattle.ring_polygons.proofs.NearestLaws.{nearest_remove}
-use Rattle.ring_polygons.proofs.Choices.{choice, extended}
+use Rattle.ring_polygons.proofs.Choices.{Choice, choice, extended}
 use Rattle.ring_polygons.proofs.Joining.{contour_like, joins_all, joins_on, views_remove, join_range}
 use Rattle.std.proofs.lemmas.Grind.{common_steps}
 use Rattle.ring_polygons.proofs.composing.join_all.Goals as goal
+use Rattle.ring_polygons.proofs.composing.join_all.Goals.{After-remove-other, After-deref-in-joining-3}
 
 -- rings without one of them
 rest_contours : (rings rest : List Ring) (i : ℕ) → i < length rings → rest ≡ remove rings i → All IsContour rings
@@ -25,6 +26,21 @@ rest_contours rings rest i l e h = subst (All IsContour) (sym e) (λ k d b. elim
   | inl lt ↦ rw get_or-remove_below (h k d (omega arith))
   | inr ge ↦ rw get_or-remove_above (h (k + 1) d (omega (arith, length-remove rings i l)))
 ])
+
+-- the ring that is joined next
+chosen_of : (c : After-remove-other)
+    → Choice c.joining.ring c.remove-other.result c.joining.others.items c.first_of-first.result c.remove-near.result
+chosen_of c = choice c.joining.ring c.remove-other.result c.joining.others.items c.joining.nears.items
+    c.deref-in-joining.result.now c.first_of-first.result c.remove-near.result c.joining.invariant.contours
+    c.joining.invariant.enough c.joining.invariant.nearest c.deref-in-joining.ensures.value c.first_of-first.ensures
+    c.remove-near.ensures.value c.remove-other.ensures.value
+
+-- the points of the joined ring
+points_from : (c : After-deref-in-joining-3)
+    → c.deref-in-joining-3.result.now
+    ≡ join c.joining.ring.points.items c.remove-other.result.points.items c.remove-near.result.place
+    c.remove-near.result.vertex
+points_from c = c.deref-in-joining-3.ensures.value ∙ ap (λ (l : RingView). l.points) c.in_ok-ring-2.ensures
 
 pub copies-requires : goal.copies-requires
 copies-requires c =
@@ -91,31 +107,18 @@ renew-requires-clause-same c =
     )
 
 pub joined-requires-clause-place : goal.joined-requires-clause-place
-joined-requires-clause-place c =
-    let chosen = choice c.joining.ring c.remove-other.result c.joining.others.items c.joining.nears.items
-    c.deref-in-joining.result.now c.first_of-first.result c.remove-near.result c.joining.invariant.contours
-    c.joining.invariant.enough c.joining.invariant.nearest c.deref-in-joining.ensures.value c.first_of-first.ensures
-    c.remove-near.ensures.value c.remove-other.ensures.value in
-    chosen.nearest.place
+joined-requires-clause-place c = (chosen_of (goal.at.joined-requires-clause-place c).After-remove-other).nearest.place
 
 pub joined-requires-clause-vertex : goal.joined-requires-clause-vertex
-joined-requires-clause-vertex c =
-    let chosen = choice c.joining.ring c.remove-other.result c.joining.others.items c.joining.nears.items
-    c.deref-in-joining.result.now c.first_of-first.result c.remove-near.result c.joining.invariant.contours
-    c.joining.invariant.enough c.joining.invariant.nearest c.deref-in-joining.ensures.value c.first_of-first.ensures
-    c.remove-near.ensures.value c.remove-other.ensures.value in
-    chosen.nearest.vertex
+joined-requires-clause-vertex c = (chosen_of (goal.at.joined-requires-clause-vertex c).After-remove-other).nearest.vertex
 
 pub renew-requires-clause-range : goal.renew-requires-clause-range
 renew-requires-clause-range c =
     let ring = c.joining.ring in
     let other = c.remove-other.result in
     let near = c.remove-near.result in
-    let chosen = choice c.joining.ring c.remove-other.result c.joining.others.items c.joining.nears.items
-    c.deref-in-joining.result.now c.first_of-first.result c.remove-near.result c.joining.invariant.contours
-    c.joining.invariant.enough c.joining.invariant.nearest c.deref-in-joining.ensures.value c.first_of-first.ensures
-    c.remove-near.ensures.value c.remove-other.ensures.value in
-    let points = c.deref-in-joining-3.ensures.value ∙ ap (λ (l : RingView). l.points) c.in_ok-ring-2.ensures in
+    let chosen = chosen_of (goal.at.renew-requires-clause-range c).After-remove-other in
+    let points = points_from (goal.at.renew-requires-clause-range c).After-deref-in-joining-3 in
     subst (All IsInRange) (sym points)
     (join_range ring.points.items other.points.items near.place near.vertex c.joining.invariant.range
     chosen.contour.in_range)
@@ -125,11 +128,8 @@ renew-requires-clause-room c =
     let ring = c.joining.ring in
     let other = c.remove-other.result in
     let near = c.remove-near.result in
-    let chosen = choice c.joining.ring c.remove-other.result c.joining.others.items c.joining.nears.items
-    c.deref-in-joining.result.now c.first_of-first.result c.remove-near.result c.joining.invariant.contours
-    c.joining.invariant.enough c.joining.invariant.nearest c.deref-in-joining.ensures.value c.first_of-first.ensures
-    c.remove-near.ensures.value c.remove-other.ensures.value in
-    let points = c.deref-in-joining-3.ensures.value ∙ ap (λ (l : RingView). l.points) c.in_ok-ring-2.ensures in
+    let chosen = chosen_of (goal.at.renew-requires-clause-room c).After-remove-other in
+    let points = points_from (goal.at.renew-requires-clause-room c).After-deref-in-joining-3 in
     omega (
       arith,
       ap length points,
@@ -146,11 +146,8 @@ renew-requires-clause-nears c i l =
     let others = ring_views c.joining.others.items in
     let nears = c.joining.nears.items in
     let k = c.first_of-first.result in
-    let chosen = choice c.joining.ring c.remove-other.result c.joining.others.items c.joining.nears.items
-    c.deref-in-joining.result.now c.first_of-first.result c.remove-near.result c.joining.invariant.contours
-    c.joining.invariant.enough c.joining.invariant.nearest c.deref-in-joining.ensures.value c.first_of-first.ensures
-    c.remove-near.ensures.value c.remove-other.ensures.value in
-    let points = c.deref-in-joining-3.ensures.value ∙ ap (λ (r : RingView). r.points) c.in_ok-ring-2.ensures in
+    let chosen = chosen_of (goal.at.renew-requires-clause-nears c).After-remove-other in
+    let points = points_from (goal.at.renew-requires-clause-nears c).After-deref-in-joining-3 in
     let rest = nearest_remove ring.points.items others nears k
     (omega (arith, chosen.there, length-map c.joining.others.items ring_view)) c.joining.invariant.nearest in
     let same : c.deref_mut.result.now ≡ remove nears k = c.deref_mut.ensures.value ∙ c.remove-near.ensures.items in
@@ -175,10 +172,7 @@ joining-preserved c =
     let near = c.remove-near.result in
     let other = c.remove-other.result in
     let next = c.in_ok-ring-2.ring in
-    let chosen = choice c.joining.ring c.remove-other.result c.joining.others.items c.joining.nears.items
-    c.deref-in-joining.result.now c.first_of-first.result c.remove-near.result c.joining.invariant.contours
-    c.joining.invariant.enough c.joining.invariant.nearest c.deref-in-joining.ensures.value c.first_of-first.ensures
-    c.remove-near.ensures.value c.remove-other.ensures.value in
+    let chosen = chosen_of (goal.at.joining-preserved c).After-remove-other in
     let place = sym (ap (λ (x : Bridge). x.place) chosen.bridge) in
     let which = sym (ap (λ (x : Bridge). x.other) chosen.bridge) in
     let vertex = sym (ap (λ (x : Bridge). x.vertex) chosen.bridge) in
