@@ -1,9 +1,9 @@
 -- A text reads as at most one certificate.
-use Rattle.std.proofs.Common.{◌≡◌, ℕ, ◌+◌, ◌*◌, ℤ, List, [], ◌∷◌, ◌++◌, map, length, Some, refl, ap, ap₂, sym, ◌∙◌, subst, append_assoc, arith, inl, inr}
+use Rattle.std.proofs.Common.{◌≡◌, ◌+◌, ◌*◌, ℤ, List, [], ◌∷◌, ◌++◌, map, length, Some, refl, ap, ap₂, sym, ◌∙◌, subst, arith}
 use Rattle.std.specs.List.{AllZip, flat_map}
 use Rattle.strip_graph.specs.declared.tilings.Step.{Step}
 use Rattle.strip_graph.specs.declared.tilings.Step.TheVariants.{V, H}
-use Rattle.text_io.specs.WordLists.{Word, Matches, Line, Kept, lines_of}
+use Rattle.text_io.specs.WordLists.{Matches, Line, Kept, lines_of}
 use Rattle.cert_checker.specs.CertTexts.{CertHead, CertParts, IsLawfulCertificate, letter, row_line, certificate_end, rows_in, cert_lines}
 use Rattle.cert_checker.specs.CertReading.{ReadsAsCertificate}
 use Rattle.cert_checker.proofs.HeadLines.{head_one}
