@@ -5,7 +5,7 @@ use Rattle.std.specs.Ordering.{int_eq}
 use Rattle.fku_types.specs.declared.points.Spot.{Spot as Place}
 use Rattle.fku_types.specs.declared.rules.CostRule.TheVariants.{Span}
 use Rattle.fku_types.specs.declared.rules.PairRule.TheVariants.{Links}
-use Rattle.section_core.specs.Parts.{Spot, ContourParts, SectionParts, LinkParts, Parts}
+use Rattle.section_core.specs.Parts.{ContourParts, SectionParts, LinkParts, Parts}
 use Rattle.correspondence.specs.Outlines.{Layer, layer_at, name_in, section_at}
 use Rattle.correspondence.specs.Correspondences.{Correspond}
 use Rattle.strip_graph.specs.Slices.{slice_loop}
