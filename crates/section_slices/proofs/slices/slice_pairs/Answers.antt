@@ -68,11 +68,13 @@ returns-in_err-loops-clause-memory g c =
 
 pub returns-in_err-solved-clause-not_more : goal.returns-in_err-solved-clause-not_more
 returns-in_err-solved-clause-not_more g c k at =
-    omega (arith, count g (goal.at.returns-in_err-solved-clause-not_more g c).After-solve_each k at, c.solve_each.ensures.not_more)
+    let strips = count g (goal.at.returns-in_err-solved-clause-not_more g c).After-solve_each k at in
+    omega (arith, strips, c.solve_each.ensures.not_more)
 
 pub returns-in_err-loops-clause-not_more : goal.returns-in_err-loops-clause-not_more
 returns-in_err-loops-clause-not_more g c k at =
-    omega (arith, count g (goal.at.returns-in_err-loops-clause-not_more g c).After-solve_each k at, c.solve_each.ensures.not_more)
+    let strips = count g (goal.at.returns-in_err-loops-clause-not_more g c).After-solve_each k at in
+    omega (arith, strips, c.solve_each.ensures.not_more)
 
 pub returns-clause-not_more : goal.returns-clause-not_more
 returns-clause-not_more g c k at =

@@ -123,6 +123,7 @@ returns-then-is_ended-clause-parses c =
     let used = used_to c.args.latest st bytes c.loop-span.count c.loop-span.at
     c.in-Some.span.next line c.in-Some.ensures.found.takes_bytes.1
     (omega (arith, c.loop-span.invariant.counted, c.in-Some.ensures.found.takes_bytes.0))
-    c.loop-span.invariant.behind c.in-Some.ensures.found.rest (end_line_is c.args.latest st (words line) _ end) here'.passed in
+    c.loop-span.invariant.behind c.in-Some.ensures.found.rest (end_line_is c.args.latest st (words line) _ end)
+    here'.passed in
     subst (λ (a : AnswerOf FileParts). Parses bytes a (objects_given (Ok front))) (end_here here' end)
     (finished_ok bytes front _ _ c.in_ok-objects.ensures used refl)
