@@ -1,5 +1,5 @@
 -- What the functions of this crate pass to one another.
-use Rattle.std.specs.Prelude.{◌≡◌, ℕ, ◌++◌, ◌<◌, Bool, List, length, map, slice_index, ℤ, codes, decimal, Vec}
+use Rattle.std.specs.Prelude.{◌≡◌, ℕ, ◌++◌, ◌<◌, Bool, List, length, map, slice_index, codes, decimal, Vec}
 use Rattle.std.specs.Global.{Global}
 use Rattle.std.specs.List.{flat_map, range_with_len}
 use Rattle.fku_types.specs.declared.points.Spot.{Spot as Place}

@@ -1,4 +1,4 @@
-use Rattle.std.proofs.Common.{◌≡◌, List, None, Some, refl, sym, map, ap, ◌∙◌}
+use Rattle.std.proofs.Common.{◌≡◌, List, None, refl, sym, map, ap, ◌∙◌}
 use Rattle.std.specs.Prelude.{filter, not}
 use Rattle.section_core.specs.Parts.{SectionParts, LinkParts}
 use Rattle.section_core.specs.Views.{contour_parts, section_parts, link_parts}

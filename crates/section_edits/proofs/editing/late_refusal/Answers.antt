@@ -9,13 +9,11 @@ use Rattle.section_edits.proofs.editing.late_refusal.Goals as goal
 
 pub returns-then-not-are_short : goal.returns-then-not-are_short
 returns-then-not-are_short c =
-    let parts = map section_parts c.args.sections.now in
     let short = shorts_held c.args.sections.now ∙ sym c.are_short.ensures ∙ c.if-not-are_short.true in
     sym (cond-true _ _ _ (ap not short))
 
 pub returns-then-not-are_small : goal.returns-then-not-are_small
 returns-then-not-are_small c =
-    let parts = map section_parts c.args.sections.now in
     let short = shorts_held c.args.sections.now ∙ sym c.are_short.ensures ∙ c.if-not-are_short.false in
     let small = smalls_held c.args.sections.now ∙ sym c.are_small.ensures ∙ c.if-not-are_small.true in
     sym (cond-false _ _ _ (ap not short) ∙ cond-true _ _ _ (ap not small))
