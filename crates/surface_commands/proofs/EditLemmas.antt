@@ -4,7 +4,6 @@ use Rattle.std.specs.Prelude.{sum_by, IfOk, IfErr, OnOk, OnErr, codes, decimal}
 use Rattle.std.specs.Global.{Global}
 use Rattle.std.proofs.lemmas.List.{append-nil, drop-drop, drop_all, length-drop}
 use Rattle.std.proofs.lemmas.List.Sums.{sum_by-cons}
-use Rattle.text_io.specs.Text.{words}
 use Rattle.text_io.specs.WordLists.{Kept, Line, lines_of, first_number}
 use Rattle.fku_types.specs.declared.limits.TheConstants.{MAX_EDITS}
 use Rattle.fku_types.specs.declared.fault.Fault.{Fault}
@@ -18,9 +17,9 @@ use Rattle.surface_core.specs.declared.surfaces.Built.{Built}
 use Rattle.triangle_meshes.specs.Meshes.{Surface, surface_of}
 use Rattle.section_edits.specs.declared.edit.Edit.{Edit}
 use Rattle.section_edits.specs.declared.edit.EditFault.{EditFault}
-use Rattle.section_edits.specs.declared.edit.EditFault.TheVariants.{EditForm, NoMemory as WantingMemory}
+use Rattle.section_edits.specs.declared.edit.EditFault.TheVariants.{NoMemory as WantingMemory}
 use Rattle.section_edits.specs.Changes.{changed}
-use Rattle.section_edits.specs.Lines.{ReadsAsEdit, IsLineFault}
+use Rattle.section_edits.specs.Lines.{ReadsAsEdit}
 use Rattle.section_edits.specs.Edits.{AreApplied, IsApplyFault, IsEdited, IsRefused}
 use Rattle.section_edits.specs.Sessions.{CountsNew, FaultCount, Held, IsSolved}
 use Rattle.command_replies.specs.Reply.{Reply, told, refused, fails, goes_on, Replies, counted}
@@ -140,13 +139,6 @@ err fault = Err fault
 
 abbrev pub IsWanting : LineAnswer → Type 0
 IsWanting a = a ≡ Err WantingMemory
-
--- a line that stands for no edit, or `NoMemory`
-pub no_line : (line : List ℕ) (S : Parts) (count : ℕ) (fault : EditFault) → IsLineFault line fault
-    → IsWanting (Err fault) ⊎ IsApplied S (words line) (Err fault) S count count
-no_line line S count EditForm h = inr (None, h, (refl, refl), refl)
-no_line line S count WantingMemory h = inl refl
-no_line line S count fault h = absurd h
 
 refused_line : (words : Line) (e : Edit) (S T : Parts) (ps : List PairParts) (before after : ℕ) (fault : EditFault)
     → ReadsAsEdit words e → IsRefused S e fault → T ≡ S
