@@ -236,7 +236,8 @@ all_done F items lists i P is under pairs end h =
     (arith, end, as_many items lists (held_pairs F items (pair_lists lists) is under pairs)) in
     subst (λ (objects : List Parts). P objects (pair_lists lists)) (objects_are F items is under)
     (subst (λ (os : List Object). P (sections_in os) (pair_lists lists)) (take_all i items end)
-    (subst (λ (vs : List (Vec GapPair Global)). P (sections_in (take i items)) (pair_lists vs)) (take_all i lists last) h))
+    (subst (λ (vs : List (Vec GapPair Global)). P (sections_in (take i items)) (pair_lists vs)) (take_all i lists last)
+    h))
 
 -- the solutions of the list of an object, and those of the later lists
 pub parted : (items : List Object) (lists : List (Vec GapPair Global)) (i : ℕ) (v : Vec GapPair Global)

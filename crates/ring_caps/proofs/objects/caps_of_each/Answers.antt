@@ -92,9 +92,10 @@ loop-place-preserved c =
     in
     record {
       caps = lists_more AreGroupCaps items lists i o v c.loop-place.each.items c.add_caps.new.each.items caps
-          c.loop-place-test.true (there at) c.index-items-place.is c.index-lists-place.is c.in_ok-add_caps.ensures inv.caps own;
-      short = short_more items lists i o v c.loop-place-test.true (there at) c.index-items-place.is c.index-lists-place.is
-          inv.short (subst (λ (ks : List (ℕ × ℕ)). All IsShort ks) (here at) made.short);
+          c.loop-place-test.true (there at) c.index-items-place.is c.index-lists-place.is c.in_ok-add_caps.ensures
+          inv.caps own;
+      short = short_more items lists i o v c.loop-place-test.true (there at) c.index-items-place.is
+          c.index-lists-place.is inv.short (subst (λ (ks : List (ℕ × ℕ)). All IsShort ks) (here at) made.short);
     }
 
 -- ---- at the end
