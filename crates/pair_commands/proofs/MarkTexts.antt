@@ -16,12 +16,6 @@ use Rattle.command_replies.specs.Reply.{Replies, Tells, told}
 use Rattle.pair_commands.proofs.MarkLines.{zip_join}
 use Rattle.command_replies.proofs.ReplyLemmas.{went_on}
 
--- a pair without marks, and one with marks
-pub no_lines : (k : ℕ) (s : Strip) (marks : List Mark) (old : List ℕ) → marks ≡ [] → IsPairText k s marks old old 0
-no_lines k s marks old e =
-    subst (λ (ms : List Mark). IsPairText k s ms old old 0) (sym e)
-    (record { solved = []; each = tt; put = sym (append-nil old); counted = refl; one = omega arith })
-
 pub some_lines : (k : ℕ) (s : Strip) (marks : List Mark) (old new : List ℕ) (t : Marked) → 0 < length marks
     → AreSoundMarks (rows s) (cols s) marks → SolvesMarked s marks t → new ≡ old ++ marked_of k (length marks) t
     → IsPairText k s marks old new 1

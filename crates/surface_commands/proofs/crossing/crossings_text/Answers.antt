@@ -75,7 +75,9 @@ loop-place-preserved c =
     c.in_ok-put_crossings.ensures ∙ ap₂
     (λ (ns : List ℕ) (n : ℕ). c.loop-place.text.items ++ crossed_text (i + 1) c.loop-place.first ns n) counts pairs
     in
-    let long : c.len-first.result ≡ length part = c.len-first.ensures ∙ c.part-item.result.ok.0 ∙ ap length (sym c.deref-in-loop-place.ensures.value ∙ here at) in
+    let long : c.len-first.result ≡ length part =
+    c.len-first.ensures ∙ c.part-item.result.ok.0
+    ∙ ap length (sym c.deref-in-loop-place.ensures.value ∙ here at) in
     record {
       lines = crossed_more vs (triangle_lists ps) i c.loop-place.first c.len-first.result c.loop-place.text.items
           c.put_crossings.new.out.items _ (there at) long text c.loop-place.invariant.lines;
