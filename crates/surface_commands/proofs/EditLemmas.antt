@@ -4,7 +4,6 @@ use Rattle.std.specs.Prelude.{sum_by, IfOk, IfErr, OnOk, OnErr, codes, decimal}
 use Rattle.std.specs.Global.{Global}
 use Rattle.std.proofs.lemmas.List.{append-nil, drop-drop, drop_all, length-drop}
 use Rattle.std.proofs.lemmas.List.Sums.{sum_by-cons}
-use Rattle.text_io.specs.Text.{words}
 use Rattle.text_io.specs.WordLists.{Kept, Line, lines_of, first_number}
 use Rattle.fku_types.specs.declared.limits.TheConstants.{MAX_EDITS}
 use Rattle.fku_types.specs.declared.fault.Fault.{Fault}

@@ -1,5 +1,5 @@
 -- Objects in order: lists of pairs, faults and surfaces.
-use Rattle.std.proofs.Common.{◌≡◌, ℕ, zero, suc, ◌+◌, ◌<◌, ◌≤◌, inl, inr, List, [], ◌∷◌, ◌++◌, length, map, sum_by, take, drop, get_or, refl, sym, ap, ap₂, ◌∙◌, arith, subst, Vec}
+use Rattle.std.proofs.Common.{◌≡◌, ℕ, zero, suc, ◌+◌, ◌<◌, ◌≤◌, inl, inr, List, [], ◌∷◌, ◌++◌, length, map, sum_by, take, drop, get_or, take_all, refl, sym, ap, ap₂, ◌∙◌, arith, subst, Vec}
 use Rattle.std.specs.Global.{Global}
 use Rattle.std.specs.Prelude.{All}
 use Rattle.std.specs.List.{AllByRecursion, AllZip}
@@ -8,8 +8,9 @@ use Rattle.std.proofs.lemmas.Slice.Zip.{AllZip-long, all_zipped_more}
 use Rattle.std.proofs.lemmas.List.Sums.{sum_by-cons}
 use Rattle.std.proofs.lemmas.List.Elements.{All-from_recursion, recursion_from_All, All-append}
 use Rattle.fku_types.specs.declared.fault.Fault.{Fault}
-use Rattle.section_core.specs.Parts.{Parts}
+use Rattle.section_core.specs.Parts.{FileParts, Parts}
 use Rattle.section_core.specs.declared.objects.Object.{Object}
+use Rattle.section_core.specs.Objects.{object_parts, AreUnder}
 use Rattle.strip_graph.specs.Strips.{Strip}
 use Rattle.row_paths.specs.Solutions.{Solution, Solves}
 use Rattle.pair_pool.specs.Solvers.{SolvesEach}
@@ -18,7 +19,8 @@ use Rattle.surface_core.specs.declared.surfaces.Built.{Built}
 use Rattle.section_pairs.specs.Pairs.{PairParts, pair_parts}
 use Rattle.section_pairs.specs.SectionFaults.{ArePairs, IsFound, IsPairsFault, IsLateMemory, OrNoMemory}
 use Rattle.surface_core.specs.Surfaces.{strips_in}
-use Rattle.surface_core.specs.Objects.{sections_in, AreListsOf, HasPairs, pair_lists, LieInGaps, numbered, IsFoundAmong, IsLateAmong}
+use Rattle.surface_core.specs.Objects.{objects_in, AreAllPairs, sections_in, AreListsOf, HasPairs, pair_lists, LieInGaps, numbered, IsFoundAmong, IsLateAmong}
+use Rattle.surface_core.proofs.ObjectFacts.{held_pairs, objects_are}
 use Rattle.section_pairs.proofs.Firsts.{front_more, first_here, all_one}
 
 -- ---- two lists place by place
@@ -223,6 +225,19 @@ as_many items lists h = omega (
   length-map items (λ (o : Object). o.sections),
   length-map lists (λ (v : Vec GapPair Global). map pair_parts v.items),
 )
+
+-- what holds of the objects before a place and of their lists, where the place is behind the last object, holds of all
+pub all_done : (F : FileParts) (items : List Object) (lists : List (Vec GapPair Global)) (i : ℕ)
+    (P : List Parts → List (List PairParts) → Type 0) → map object_parts items ≡ F.objects
+    → AreUnder F.cost F.rule items → AreAllPairs F (pair_lists lists) → length items ≤ i
+    → P (sections_in (take i items)) (pair_lists (take i lists)) → P (objects_in F) (pair_lists lists)
+all_done F items lists i P is under pairs end h =
+    let last : length lists ≤ i = omega
+    (arith, end, as_many items lists (held_pairs F items (pair_lists lists) is under pairs)) in
+    subst (λ (objects : List Parts). P objects (pair_lists lists)) (objects_are F items is under)
+    (subst (λ (os : List Object). P (sections_in os) (pair_lists lists)) (take_all i items end)
+    (subst (λ (vs : List (Vec GapPair Global)). P (sections_in (take i items)) (pair_lists vs)) (take_all i lists last)
+    h))
 
 -- the solutions of the list of an object, and those of the later lists
 pub parted : (items : List Object) (lists : List (Vec GapPair Global)) (i : ℕ) (v : Vec GapPair Global)

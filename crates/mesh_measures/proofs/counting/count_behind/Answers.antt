@@ -32,8 +32,10 @@ all c =
       boxed = r.boxed;
       front = s.ensures.front;
       back = s.ensures.back;
-      x_past = past x_of e.greatest.x s.result.0.now c.near_end-near.result r.first.greatest.x c.near_end-near.ensures.past;
-      z_past = past z_of e.greatest.z s.result.1.now c.low_end-low.result r.first.greatest.z c.low_end-low.ensures.past;
+      x_past = past x_of e.greatest.x s.result.0.now c.near_end-near.result r.first.greatest.x
+          c.near_end-near.ensures.past;
+      z_past = past z_of e.greatest.z s.result.1.now c.low_end-low.result r.first.greatest.z
+          c.low_end-low.ensures.past;
     })
 
 pub near_end-near-requires : goal.near_end-near-requires

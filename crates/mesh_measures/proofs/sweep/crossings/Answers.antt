@@ -11,7 +11,8 @@ use Rattle.mesh_measures.proofs.sweep.crossings.Goals.{After-swept-sorted}
 
 -- the boxes of the triangles of a part, and the same in the order of the sweep
 made : (c : After-swept-sorted)
-    → Made (part_corners c.args.vertices.now c.args.triangles.now) c.in_ok-boxes.field-0.items c.swept-sorted.result.items
+    → Made (part_corners c.args.vertices.now c.args.triangles.now) c.in_ok-boxes.field-0.items
+    c.swept-sorted.result.items
 made c = record {
   corners = c.in_ok-boxes.ensures.corners;
   places = c.in_ok-boxes.ensures.places
@@ -51,7 +52,8 @@ returns-clause-counts c =
     both_ok c.counted.result (λ r. length r.counts.items ≡ length c.deref.result.now)
     (λ r. (i : ℕ) → slice_index r.counts.items i ≡ tally c.deref.result.now i)
     (λ r. r.counts.items ≡ crossing_counts _) c.counted.ensures.length c.counted.ensures.counts
-    (λ r same is. counts_are _ _ _ (made (goal.at.returns-clause-counts c).After-swept-sorted) r.counts.items (same ∙ ap length c.deref.ensures.value)
+    (λ r same is. counts_are _ _ _ (made (goal.at.returns-clause-counts c).After-swept-sorted) r.counts.items
+    (same ∙ ap length c.deref.ensures.value)
     (λ i. is i ∙ ap (λ (xs : List Boxed). tally xs i) c.deref.ensures.value))
 
 pub returns-clause-pairs : goal.returns-clause-pairs

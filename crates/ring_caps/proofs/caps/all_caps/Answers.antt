@@ -7,6 +7,8 @@ use Rattle.fku_types.specs.declared.points.Point.{Point}
 use Rattle.fku_types.specs.declared.fault.Fault.{Fault}
 use Rattle.plane_geom.specs.Rings.{RingView}
 use Rattle.plane_geom.specs.RingViews.{ring_views}
+use Rattle.correspondence.specs.Contours.{point_lists}
+use Rattle.correspondence.specs.Outlines.{layer_at}
 use Rattle.section_pairs.specs.Rings.{rings_at}
 use Rattle.section_pairs.specs.Pairs.{pair_parts, IsShort}
 use Rattle.section_pairs.specs.SectionFaults.{IsFirstFault, OrNoMemory}
@@ -22,9 +24,10 @@ use Rattle.ring_caps.proofs.RingSums.{groups_close}
 use Rattle.ring_caps.proofs.CapLoops.{sections_short, long_section}
 use Rattle.surface_core.proofs.SectionFacts.{are_few, are_views, outline_at}
 use Rattle.ring_caps.proofs.caps.all_caps.Goals as goal
+use Rattle.ring_caps.proofs.caps.all_caps.Goals.{After-deref}
 
 -- ---- the rings and the contours of the section
-there : (c : goal.After-deref) → c.loop-place.place < length c.in_ok-rings.rings.items
+there : (c : After-deref) → c.loop-place.place < length c.in_ok-rings.rings.items
 there c = omega (
   arith,
   c.loop-place-test.true,
@@ -32,17 +35,21 @@ there c = omega (
   count_is c.sections-all.result.now c.args.sections.now.sections c.sections-all.ensures.data,
 )
 
-rings_are : (c : goal.After-deref) → ring_views c.deref.result.now ≡ rings_at c.args.sections.now c.loop-place.place
+rings_are : (c : After-deref) → ring_views c.deref.result.now ≡ rings_at c.args.sections.now c.loop-place.place
 rings_are c = views_at c.args.sections.now c.in_ok-rings.rings.items c.loop-place.place c.index.result.now
     c.deref.result.now c.in_ok-rings.ensures (there c) c.index.ensures c.deref.ensures.value
+
+outlines_are : (c : After-deref)
+    → point_lists c.index-all-place.result ≡ (layer_at c.args.sections.now c.loop-place.place).outlines
+outlines_are c = outline_at c.sections-all.result.now c.args.sections.now c.loop-place.place c.index-all-place.result
+    c.sections-all.ensures.data c.loop-place-test.true c.index-all-place.is
 
 pub section_caps-requires-clause-count : goal.section_caps-requires-clause-count
 section_caps-requires-clause-count c =
     let S = c.args.sections.now in
     let s = c.loop-place.place in
     count_at S s c.deref.result.now (rings_are c)
-    ∙ ap length (sym (outline_at c.sections-all.result.now S s c.index-all-place.result c.sections-all.ensures.data
-    c.loop-place-test.true c.index-all-place.is))
+    ∙ ap length (sym (outlines_are c))
 
 pub section_caps-requires-clause-joined : goal.section_caps-requires-clause-joined
 section_caps-requires-clause-joined c face =
@@ -65,13 +72,9 @@ returns-in_err-more-clause-fault c =
     let count = count_is all.result.now S.sections all.ensures.data in
     let fault = c.in_err-more.field-0.0 in
     let exit = err_from_is_err_and c.from_residual-in_err-more.result c.from_residual-in_err-more.ensures.1 in
-    let short : s < length c.in_ok-rings.rings.items =
-    omega (arith, c.loop-place-test.true, c.in_ok-rings.ensures.count, count) in
-    let rings = views_at S c.in_ok-rings.rings.items s c.index.result.now c.deref.result.now c.in_ok-rings.ensures short
-    c.index.ensures c.deref.ensures.value in
-    let outlines = outline_at all.result.now S s c.index-all-place.result all.ensures.data c.loop-place-test.true
-    c.index-all-place.is in
-    let sizes = ap₂ (λ (os : List (List Point)) (rs : List RingView). both_sizes s os rs ps) outlines rings in
+    let at = (goal.at.returns-in_err-more-clause-fault c).After-deref in
+    let sizes = ap₂ (λ (os : List (List Point)) (rs : List RingView). both_sizes s os rs ps) (outlines_are at)
+    (rings_are at) in
     err_told c.from_residual-in_err-more.result fault
     (OrNoMemory (IsFirstFault IsShort HasLongGroup (group_sizes S ps)))
     (exit.1 ∙ ap (λ (e : Fault). Err e) exit.2)
@@ -85,15 +88,9 @@ loop-place-preserved c =
     let S = c.args.sections.now in
     let ps = map pair_parts c.args.pairs.now in
     let s = c.loop-place.place in
-    let all = c.sections-all in
-    let count = count_is all.result.now S.sections all.ensures.data in
-    let short : s < length c.in_ok-rings.rings.items =
-    omega (arith, c.loop-place-test.true, c.in_ok-rings.ensures.count, count) in
-    let rings = views_at S c.in_ok-rings.rings.items s c.index.result.now c.deref.result.now c.in_ok-rings.ensures short
-    c.index.ensures c.deref.ensures.value in
-    let outlines = outline_at all.result.now S s c.index-all-place.result all.ensures.data c.loop-place-test.true
-    c.index-all-place.is in
-    let sizes = ap₂ (λ (os : List (List Point)) (rs : List RingView). both_sizes s os rs ps) outlines rings in
+    let at = (goal.at.loop-place-preserved c).After-deref in
+    let sizes = ap₂ (λ (os : List (List Point)) (rs : List RingView). both_sizes s os rs ps) (outlines_are at)
+    (rings_are at) in
     let old = c.loop-place.caps.items in
     let one = c.in_ok-more.more in
     let new = c.add_caps.new.caps.items in
@@ -101,9 +98,9 @@ loop-place-preserved c =
     let made = c.in_ok-more.ensures in
     let here : AreCapsOf by_group S ps s one = record {
       triangles = made.triangles ∙ ap₂ (λ (os : List (List Point)) (rs : List RingView). both_group_caps os rs ps s)
-          outlines rings;
-      folded = made.folded ∙ ap₂ (λ (os : List (List Point)) (rs : List RingView). both_folded os rs ps s) outlines
-          rings;
+          (outlines_are at) (rings_are at);
+      folded = made.folded ∙ ap₂ (λ (os : List (List Point)) (rs : List RingView). both_folded os rs ps s)
+          (outlines_are at) (rings_are at);
     } in
     let last : AreCapsOf by_group S ps (length old) one =
     subst (λ (k : ℕ). AreCapsOf by_group S ps k one) (sym c.loop-place.invariant.count) here in

@@ -1,4 +1,4 @@
-use Rattle.std.proofs.Common.{arith, ◌<◌, ℕ, List, [], length, get_or, ap, sym, ◌∙◌, subst, All}
+use Rattle.std.proofs.Common.{arith, ◌≡◌, ◌<◌, ℕ, List, [], length, get_or, ap, sym, ◌∙◌, subst, All}
 use Rattle.std.proofs.lemmas.List.{length-map}
 use Rattle.fku_types.specs.declared.limits.TheConstants.{MAX_MESH_TRIANGLES}
 use Rattle.fku_types.specs.declared.points.Point.{Point}
@@ -8,6 +8,20 @@ use Rattle.triangle_meshes.proofs.Parts.{Part, part_read, few_in_part}
 use Rattle.surface_commands.specs.Measure.{AreMeasures}
 use Rattle.surface_commands.proofs.MeshLemmas.{is_solid, zip_one}
 use Rattle.surface_commands.proofs.measuring.parts_measured.Goals as goal
+use Rattle.surface_commands.proofs.measuring.parts_measured.Goals.{After-deref-in-loop-part}
+
+-- the part at the loop's place
+in_parts : (c : After-deref-in-loop-part) → c.loop-part.part-index < length c.args.mesh.now.parts.items
+in_parts c = omega (arith, c.loop-part-test.true, ap length c.deref-part-items.ensures.value)
+
+there : (c : After-deref-in-loop-part) → c.loop-part.part-index < length (triangle_lists c.args.mesh.now.parts.items)
+there c = omega (arith, in_parts c, length-map c.args.mesh.now.parts.items (λ (x : Part). x.items))
+
+here : (c : After-deref-in-loop-part)
+    → c.deref-in-loop-part.result.now ≡ get_or (triangle_lists c.args.mesh.now.parts.items) c.loop-part.part-index []
+here c = c.deref-in-loop-part.ensures.value
+    ∙ part_read c.args.mesh.now.parts.items c.deref-part-items.result.now c.loop-part.part-index c.part-item.result []
+    c.deref-part-items.ensures.value (in_parts c) c.part-item.is
 
 pub measure-requires-clause-in_range : goal.measure-requires-clause-in_range
 measure-requires-clause-in_range c =
@@ -20,46 +34,30 @@ pub measure-requires-clause-known : goal.measure-requires-clause-known
 measure-requires-clause-known c =
     let ps = c.args.mesh.now.parts.items in
     let i = c.loop-part.part-index in
-    let l : i < length ps = omega (arith, c.loop-part-test.true, ap length c.deref-part-items.ensures.value) in
-    let here = c.deref-in-loop-part.ensures.value
-    ∙ part_read ps c.deref-part-items.result.now i c.part-item.result [] c.deref-part-items.ensures.value l
-    c.part-item.is in
-    let there : i < length (triangle_lists ps) = omega (arith, length-map ps (λ (x : Part). x.items)) in
-    subst (λ (xs : List (List ℕ)). All (All (λ id. id < length c.deref.result.now)) xs) (sym here)
+    let at = (goal.at.measure-requires-clause-known c).After-deref-in-loop-part in
+    subst (λ (xs : List (List ℕ)). All (All (λ id. id < length c.deref.result.now)) xs) (sym (here at))
     (subst (λ (vs : List Point). All (All (λ id. id < length vs)) (get_or (triangle_lists ps) i []))
-    (sym c.deref.ensures.value) (c.requires.known_ids i [] there))
+    (sym c.deref.ensures.value) (c.requires.known_ids i [] (there at)))
 
 pub measure-requires-clause-some : goal.measure-requires-clause-some
 measure-requires-clause-some c =
-    let ps = c.args.mesh.now.parts.items in
     let i = c.loop-part.part-index in
-    let l : i < length ps = omega (arith, c.loop-part-test.true, ap length c.deref-part-items.ensures.value) in
-    let here = c.deref-in-loop-part.ensures.value
-    ∙ part_read ps c.deref-part-items.result.now i c.part-item.result [] c.deref-part-items.ensures.value l
-    c.part-item.is in
-    let there : i < length (triangle_lists ps) = omega (arith, length-map ps (λ (x : Part). x.items)) in
-    omega (arith, ap length here, c.requires.some_triangle i [] there)
+    let at = (goal.at.measure-requires-clause-some c).After-deref-in-loop-part in
+    omega (arith, ap length (here at), c.requires.some_triangle i [] (there at))
 
 pub measure-requires-clause-few : goal.measure-requires-clause-few
 measure-requires-clause-few c =
     let ps = c.args.mesh.now.parts.items in
     let i = c.loop-part.part-index in
-    let l : i < length ps = omega (arith, c.loop-part-test.true, ap length c.deref-part-items.ensures.value) in
-    let here = c.deref-in-loop-part.ensures.value
-    ∙ part_read ps c.deref-part-items.result.now i c.part-item.result [] c.deref-part-items.ensures.value l
-    c.part-item.is in
-    omega (arith, ap length here, few_in_part ps i MAX_MESH_TRIANGLES l c.requires.few_triangles)
+    let at = (goal.at.measure-requires-clause-few c).After-deref-in-loop-part in
+    omega (arith, ap length (here at), few_in_part ps i MAX_MESH_TRIANGLES (in_parts at) c.requires.few_triangles)
 
 pub loop-part-preserved : goal.loop-part-preserved
 loop-part-preserved c =
     let ps = c.args.mesh.now.parts.items in
     let vs : List Point = c.args.mesh.now.vertices.items in
     let i = c.loop-part.part-index in
-    let l : i < length ps = omega (arith, c.loop-part-test.true, ap length c.deref-part-items.ensures.value) in
-    let here = c.deref-in-loop-part.ensures.value
-    ∙ part_read ps c.deref-part-items.result.now i c.part-item.result [] c.deref-part-items.ensures.value l
-    c.part-item.is in
-    let there : i < length (triangle_lists ps) = omega (arith, length-map ps (λ (x : Part). x.items)) in
+    let at = (goal.at.loop-part-preserved c).After-deref-in-loop-part in
     let m = c.in_ok-measure.field-0 in
     let says = c.in_ok-measure.ensures in
     let points = c.deref.result.now in
@@ -76,7 +74,7 @@ loop-part-preserved c =
       solid = is_solid points triangles m.solid says.six_volume says.moment_x says.moment_y says.moment_z;
     } in
     let same : AreMeasures vs (get_or (triangle_lists ps) i []) m =
-    subst (λ (ts : List (List ℕ)). AreMeasures vs ts m) here
+    subst (λ (ts : List (List ℕ)). AreMeasures vs ts m) (here at)
     (subst (λ (ws : List Point). AreMeasures ws triangles m) c.deref.ensures.value are) in
-    zip_one (AreMeasures vs) (triangle_lists ps) i [] c.loop-part.all.items c.push.new.self.items m there
+    zip_one (AreMeasures vs) (triangle_lists ps) i [] c.loop-part.all.items c.push.new.self.items m (there at)
     c.in_ok-push.ensures.items c.loop-part.invariant same

@@ -1,4 +1,4 @@
-use Rattle.std.proofs.Common.{◌+◌, ◌*◌, ◌++◌, List, length, map, sum_by, ℕ, ℤ, pos, ◌+ℤ◌, ◌≤ℤ◌, sym, ap, ◌∙◌, arith, subst, All, to_z}
+use Rattle.std.proofs.Common.{◌≡◌, ◌+◌, ◌*◌, ◌++◌, List, length, map, sum_by, ℕ, ℤ, pos, ◌+ℤ◌, ◌≤ℤ◌, sym, ap, ◌∙◌, arith, subst, All, to_z}
 use mir.Syntax.{w128}
 use Rattle.std.specs.List.{AllByRecursion}
 use Rattle.std.proofs.lemmas.Int.{ints}
@@ -10,9 +10,10 @@ use Rattle.triangle_meshes.specs.Meshes.{Surface, surface_of, IsValid}
 use Rattle.triangle_meshes.specs.Joined.{joined}
 use Rattle.surface_core.specs.declared.surfaces.Built.{Built}
 use Rattle.surface_core.specs.Objects.{objects_in, surfaces_of, pair_cost_limit}
-use Rattle.surface_core.proofs.ObjectFacts.{few_objects}
-use Rattle.surface_core.proofs.JoinedSizes.{IsCheap, are_bounded, joined_valid, sum_next, cost_next, meshes_next, none_left, few_added, folded_added, cost_added, sum_ended, cost_ended}
+use Rattle.surface_core.proofs.ObjectFacts.{AreFewObjects, few_objects}
+use Rattle.surface_core.proofs.JoinedSizes.{IsCheap, AreBounded, Cost, are_bounded, joined_valid, sum_next, cost_next, meshes_next, none_left, few_added, folded_added, cost_added, sum_ended, cost_ended}
 use Rattle.surface_core.proofs.objects.join_several.Goals as goal
+use Rattle.surface_core.proofs.objects.join_several.Goals.{After-items-items, In-Some, After-deref}
 
 pub loop-built-init : goal.loop-built-init
 loop-built-init c =
@@ -31,39 +32,43 @@ loop-built-init c =
       left = omega (arith, gives.1, ap length gives.0);
     }
 
+few : (c : After-items-items) → AreFewObjects (objects_in c.args.objects.now)
+few c = few_objects c.args.objects.now c.items-items.ensures.accepted
+
+bounded : (c : After-items-items) → AreBounded (objects_in c.args.objects.now) c.args.each.items
+bounded c = are_bounded (objects_in c.args.objects.now) c.args.each.items c.requires.bounded
+
+-- ---- in the loop
+cost : (c : In-Some)
+    → Cost (to_z w128 c.loop-built.cost-bits) c.in-Some.built.cost c.loop-built.pairs c.in-Some.built.pairs
+cost c =
+    let was = c.loop-built.invariant in
+    let at = (goal.at.In-Some c).After-items-items in
+    cost_added (objects_in c.args.objects.now) c.args.each.items c.loop-built.built-iterator.rest.items
+    c.next.new.self.rest.items c.in-Some.built c.loop-built.pairs (to_z w128 c.loop-built.cost-bits) (few at)
+    (bounded at) c.in-Some.ensures.steps.0 was.pairs was.cheap was.some_cost was.few_cost
+
 pub overflow_add-pairs : goal.overflow_add-pairs
 overflow_add-pairs c =
-    let F = c.args.objects.now in
-    let each = c.args.each.items in
-    let few = few_objects F c.items-items.ensures.accepted in
-    let all = are_bounded (objects_in F) each c.requires.bounded in
+    let at = (goal.at.overflow_add-pairs c).After-items-items in
     omega (
       arith,
-      few_added (objects_in F) each c.loop-built.built-iterator.rest.items c.next.new.self.rest.items
-          c.in-Some.built c.loop-built.pairs few all c.in-Some.ensures.steps.0 c.loop-built.invariant.pairs,
+      few_added (objects_in c.args.objects.now) c.args.each.items c.loop-built.built-iterator.rest.items
+          c.next.new.self.rest.items c.in-Some.built c.loop-built.pairs (few at) (bounded at)
+          c.in-Some.ensures.steps.0 c.loop-built.invariant.pairs,
     )
 
 pub overflow_add-cost : goal.overflow_add-cost
-overflow_add-cost c =
-    let F = c.args.objects.now in
-    let each = c.args.each.items in
-    let was = c.loop-built.invariant in
-    let few = few_objects F c.items-items.ensures.accepted in
-    let all = are_bounded (objects_in F) each c.requires.bounded in
-    (cost_added (objects_in F) each c.loop-built.built-iterator.rest.items c.next.new.self.rest.items c.in-Some.built
-    c.loop-built.pairs (to_z w128 c.loop-built.cost-bits) few all c.in-Some.ensures.steps.0 was.pairs was.cheap
-    was.some_cost was.few_cost).fits
+overflow_add-cost c = (cost (goal.at.overflow_add-cost c).In-Some).fits
 
 pub overflow_add-folded : goal.overflow_add-folded
 overflow_add-folded c =
-    let F = c.args.objects.now in
-    let each = c.args.each.items in
-    let few = few_objects F c.items-items.ensures.accepted in
-    let all = are_bounded (objects_in F) each c.requires.bounded in
+    let at = (goal.at.overflow_add-folded c).After-items-items in
     omega (
       arith,
-      folded_added (objects_in F) each c.loop-built.built-iterator.rest.items c.next.new.self.rest.items
-          c.in-Some.built c.loop-built.folded few all c.in-Some.ensures.steps.0 c.loop-built.invariant.folded,
+      folded_added (objects_in c.args.objects.now) c.args.each.items c.loop-built.built-iterator.rest.items
+          c.next.new.self.rest.items c.in-Some.built c.loop-built.folded (few at) (bounded at)
+          c.in-Some.ensures.steps.0 c.loop-built.invariant.folded,
     )
 
 pub loop-built-preserved : goal.loop-built-preserved
@@ -76,11 +81,7 @@ loop-built-preserved c =
     let each = c.args.each.items in
     let f : Built → ℤ = λ x. x.cost in
     let s = to_z w128 c.loop-built.cost-bits in
-    let F = c.args.objects.now in
-    let few = few_objects F c.items-items.ensures.accepted in
-    let all = are_bounded (objects_in F) each c.requires.bounded in
-    let sum = cost_added (objects_in F) each rest more b c.loop-built.pairs s few all steps.0 was.pairs was.cheap
-    was.some_cost was.few_cost in
+    let sum = cost (goal.at.loop-built-preserved c).In-Some in
     record {
       meshes = meshes_next c.loop-built.meshes.items c.push.new.self.items rest more b (surfaces_of each)
           c.in_ok-push.ensures.items steps.0 was.meshes;
@@ -97,61 +98,49 @@ loop-built-preserved c =
     }
 
 -- ---- at the end
+same : (c : After-deref) → map surface_of c.deref.result.now ≡ surfaces_of c.args.each.items
+same c =
+    let left = c.loop-built.built-iterator.rest in
+    ap (map surface_of) c.deref.ensures.value
+    ∙ none_left c.loop-built.meshes.items left.items left.len (surfaces_of c.args.each.items)
+    c.loop-built.invariant.left c.in-None.ensures.steps.0 c.loop-built.invariant.meshes
+
+whole : (c : After-deref) → IsValid (joined (surfaces_of c.args.each.items))
+whole c =
+    let at = (goal.at.After-deref c).After-items-items in
+    joined_valid (objects_in c.args.objects.now) c.args.each.items (few at) (bounded at) c.requires.valid
+
 pub join_meshes-requires-clause-some : goal.join_meshes-requires-clause-some
 join_meshes-requires-clause-some c =
-    let F = c.args.objects.now in
-    let left = c.loop-built.built-iterator.rest in
-    let n = (are_bounded (objects_in F) c.args.each.items c.requires.bounded).count in
-    let same = ap (map surface_of) c.deref.ensures.value
-    ∙ none_left c.loop-built.meshes.items left.items left.len (surfaces_of c.args.each.items)
-    c.loop-built.invariant.left c.in-None.ensures.steps.0 c.loop-built.invariant.meshes in
+    let at = goal.at.join_meshes-requires-clause-some c in
     omega (
       arith,
-      ap length same,
+      ap length (same at.After-deref),
       length-map c.deref.result.now surface_of,
       length-map c.args.each.items (λ (b : Built). surface_of b.mesh),
-      n,
-      (few_objects F c.items-items.ensures.accepted).some,
+      (bounded at.After-items-items).count,
+      (few at.After-items-items).some,
     )
 
 pub join_meshes-requires-clause-whole : goal.join_meshes-requires-clause-whole
 join_meshes-requires-clause-whole c =
-    let F = c.args.objects.now in
-    let left = c.loop-built.built-iterator.rest in
-    let same = ap (map surface_of) c.deref.ensures.value
-    ∙ none_left c.loop-built.meshes.items left.items left.len (surfaces_of c.args.each.items)
-    c.loop-built.invariant.left c.in-None.ensures.steps.0 c.loop-built.invariant.meshes in
-    subst (λ (ss : List Surface). IsValid (joined ss)) (sym same)
-    (joined_valid (objects_in F) c.args.each.items (few_objects F c.items-items.ensures.accepted)
-    (are_bounded (objects_in F) c.args.each.items c.requires.bounded) c.requires.valid)
-
-pub returns-clause-valid : goal.returns-clause-valid
-returns-clause-valid c =
-    let F = c.args.objects.now in
-    let left = c.loop-built.built-iterator.rest in
-    let same = ap (map surface_of) c.deref.ensures.value
-    ∙ none_left c.loop-built.meshes.items left.items left.len (surfaces_of c.args.each.items)
-    c.loop-built.invariant.left c.in-None.ensures.steps.0 c.loop-built.invariant.meshes in
-    subst IsValid (sym (c.in_ok-mesh.ensures.joined ∙ ap joined same))
-    (joined_valid (objects_in F) c.args.each.items (few_objects F c.items-items.ensures.accepted)
-    (are_bounded (objects_in F) c.args.each.items c.requires.bounded) c.requires.valid)
-
-pub returns-clause-closed : goal.returns-clause-closed
-returns-clause-closed c =
-    let left = c.loop-built.built-iterator.rest in
-    let same = ap (map surface_of) c.deref.ensures.value
-    ∙ none_left c.loop-built.meshes.items left.items left.len (surfaces_of c.args.each.items)
-    c.loop-built.invariant.left c.in-None.ensures.steps.0 c.loop-built.invariant.meshes in
-    c.in_ok-mesh.ensures.closed (subst (λ (ss : List Surface). All (λ s. All IsClosed s.parts) ss) (sym same)
-    c.requires.closed)
+    let at = (goal.at.join_meshes-requires-clause-whole c).After-deref in
+    subst (λ (ss : List Surface). IsValid (joined ss)) (sym (same at)) (whole at)
 
 pub join_meshes-requires-clause-each : goal.join_meshes-requires-clause-each
 join_meshes-requires-clause-each c =
-    let left = c.loop-built.built-iterator.rest in
-    let same = ap (map surface_of) c.deref.ensures.value
-    ∙ none_left c.loop-built.meshes.items left.items left.len (surfaces_of c.args.each.items)
-    c.loop-built.invariant.left c.in-None.ensures.steps.0 c.loop-built.invariant.meshes in
-    subst (λ (ss : List Surface). All IsValid ss) (sym same) c.requires.valid
+    subst (λ (ss : List Surface). All IsValid ss) (sym (same (goal.at.join_meshes-requires-clause-each c).After-deref))
+    c.requires.valid
+
+pub returns-clause-valid : goal.returns-clause-valid
+returns-clause-valid c =
+    let at = (goal.at.returns-clause-valid c).After-deref in
+    subst IsValid (sym (c.in_ok-mesh.ensures.joined ∙ ap joined (same at))) (whole at)
+
+pub returns-clause-closed : goal.returns-clause-closed
+returns-clause-closed c =
+    c.in_ok-mesh.ensures.closed (subst (λ (ss : List Surface). All (λ s. All IsClosed s.parts) ss)
+    (sym (same (goal.at.returns-clause-closed c).After-deref)) c.requires.closed)
 
 pub returns-clause-joined : goal.returns-clause-joined
 returns-clause-joined c =
@@ -159,13 +148,11 @@ returns-clause-joined c =
     let was = c.loop-built.invariant in
     let none = c.in-None.ensures.steps.0 in
     let each = c.args.each.items in
-    let same = ap (map surface_of) c.deref.ensures.value
-    ∙ none_left c.loop-built.meshes.items left.items left.len (surfaces_of each) was.left none was.meshes in
     let pairs : Built → ℕ = λ b. b.pairs in
     let folded : Built → ℕ = λ b. b.folded in
     let cost : Built → ℤ = λ b. b.cost in
     record {
-      mesh = c.in_ok-mesh.ensures.joined ∙ ap joined same;
+      mesh = c.in_ok-mesh.ensures.joined ∙ ap joined (same (goal.at.returns-clause-joined c).After-deref);
       pairs = sum_ended pairs left.items left.len c.loop-built.pairs (sum_by pairs each) was.left none was.pairs;
       cost = cost_ended cost left.items left.len (to_z w128 c.loop-built.cost-bits) (signed_sum cost each) was.left
           none was.cost;
