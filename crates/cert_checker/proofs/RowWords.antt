@@ -39,7 +39,8 @@ first_is w more z (y ∷ ys) e m =
     (ys, ap (λ (x : ℤ). x ∷ ys) g, m.1)
 
 -- one more number
-pub row_more : (old new new' : List ℤ) (all : Line) (w : List ℕ) (more rest : Line) (count : ℕ) (z : ℤ) → rest ≡ w ∷ more
+pub row_more : (old new new' : List ℤ) (all : Line) (w : List ℕ) (more rest : Line) (count : ℕ) (z : ℤ)
+    → rest ≡ w ∷ more
     → IsValue w z → new' ≡ new ++ z ∷ [] → RowSoFar old new all rest count → RowSoFar old new' all more (count + 1)
 row_more old new new' all w more rest count z e v n r =
     record {

@@ -67,7 +67,10 @@ reads = record {
                 (refl, (refl, (refl, (refl, (refl, tt))))),
                 (
                   (refl, (refl, (refl, (refl, (refl, tt))))),
-                  ((refl, (refl, (refl, (refl, (refl, tt))))), ((refl, (refl, (refl, (refl, (refl, tt))))), ((refl, tt), tt))),
+                  (
+                    (refl, (refl, (refl, (refl, (refl, tt))))),
+                    ((refl, (refl, (refl, (refl, (refl, tt))))), ((refl, tt), tt)),
+                  ),
                 ),
               ),
             ),

@@ -134,7 +134,14 @@ at_a_corner = inl (record {
               t = 0;
               e = 1;
               at =
-                  record { positive = omega arith; on_first = omega arith; on_second = omega arith; x = refl; y = refl };
+                  record {
+                    positive = omega arith;
+                    on_first = omega arith;
+                    on_second = omega arith;
+                    x = refl;
+                    y =
+                        refl;
+                  };
             };
       };
 })

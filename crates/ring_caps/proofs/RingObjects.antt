@@ -38,7 +38,8 @@ joints (S ∷ objects) (b ∷ each) h =
       lists = h.0.is_built.pairs ∷ more.lists;
       pairs = (h.0.is_built.are_pairs, more.pairs);
       short =
-          All-append IsShort (group_sizes S h.0.is_built.pairs) (all_group_sizes objects more.lists) h.0.short more.short;
+          All-append IsShort (group_sizes S h.0.is_built.pairs) (all_group_sizes objects more.lists) h.0.short
+          more.short;
     }
 
 -- what is built of objects whose groups are short

@@ -111,7 +111,8 @@ one_certify k F = one_numbered F _
 -- a text of a certificate has one reading, or one fault
 one_cert_fault : (tail : List Kept) (last : ℕ) (f g : Fault) → IsToldFault f → IsToldFault g → IsCertFault tail last f
     → IsCertFault tail last g → f ≡ g
-one_cert_fault tail last f g t u h k = h.2 ∙ ap (λ (l : ℕ). CertForm l) (one_line_fault tail last h.0 k.0 h.1 k.1) ∙ sym k.2
+one_cert_fault tail last f g t u h k = h.2 ∙ ap (λ (l : ℕ). CertForm l) (one_line_fault tail last h.0 k.0 h.1 k.1)
+    ∙ sym k.2
 
 pub cert_or_fault : (tail : List Kept) (last : ℕ) (C : CertParts) (f : Fault) → IsToldFault f
     → ReadsAsCertificate tail C → IsCertFault tail last f → ⊥

@@ -32,7 +32,12 @@ two_triangles = record {
   rule = Overlap;
   objects =
       record { name = codes "a"; sections = one_triangle.sections; links = [] }
-      ∷ record { name = codes "q"; sections = section_with (negsuc 4) (triangle_parts (codes "b") ∷ []) ∷ []; links = [] }
+      ∷ record {
+        name = codes "q";
+        sections = section_with (negsuc 4) (triangle_parts (codes "b") ∷ []) ∷ [];
+        links =
+            [];
+      }
       ∷ [];
 }
 

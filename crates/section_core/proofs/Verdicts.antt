@@ -230,7 +230,11 @@ point_verdict f p k =
     ))
     (λ e.
     let both = and_parts (is_coordinate p.0) (is_coordinate p.1) (not-false _ e) in (
-      (k.0.0, all_join IsSpot f.points (p ∷ []) k.0.1 ((coordinate_is p.0 both.0, coordinate_is p.1 both.1), tt), k.0.2),
+      (
+        k.0.0,
+        all_join IsSpot f.points (p ∷ []) k.0.1 ((coordinate_is p.0 both.0, coordinate_is p.1 both.1), tt),
+        k.0.2,
+      ),
       k.1,
     ))
 

@@ -92,7 +92,8 @@ two_objects = record {
   rule = Overlap;
   objects =
       record { name = codes "p"; sections = squares.sections; links = [] }
-      ∷ record { name = codes "q"; sections = section_of (pos 0) (square_named (codes "c") ∷ []) ∷ []; links = [] } ∷ [];
+      ∷ record { name = codes "q"; sections = section_of (pos 0) (square_named (codes "c") ∷ []) ∷ []; links = [] }
+      ∷ [];
 }
 
 two_objects_text : text_of_file two_objects

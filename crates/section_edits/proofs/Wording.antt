@@ -104,7 +104,8 @@ pub no_second : (ws rest : List (List ℕ)) (ps : List Spot) (k count : ℕ) (a 
     → Reads ws rest ps → length ps ≡ k → k < count → rest ≡ a ∷ more → more ≡ [] → NoSpots count ws
 no_second ws rest ps k count a more r e lt f g =
     too_few ws (a ∷ []) ps k count
-    (subst (λ (xs : List (List ℕ)). Reads ws xs ps) (f ∙ ap (λ (xs : List (List ℕ)). a ∷ xs) g) r) e lt (λ s rs h. h.0.1)
+    (subst (λ (xs : List (List ℕ)). Reads ws xs ps) (f ∙ ap (λ (xs : List (List ℕ)). a ∷ xs) g) r) e lt
+    (λ s rs h. h.0.1)
 
 two_words : (rest more after : List (List ℕ)) (a b : List ℕ) → rest ≡ a ∷ more → more ≡ b ∷ after
     → rest ≡ a ∷ b ∷ after

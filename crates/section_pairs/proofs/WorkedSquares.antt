@@ -99,7 +99,14 @@ overlap = record {
                   t = 0;
                   e = 1;
                   at =
-                      record { positive = omega arith; on_first = omega arith; on_second = omega arith; x = refl; y = refl };
+                      record {
+                        positive = omega arith;
+                        on_first = omega arith;
+                        on_second = omega arith;
+                        x = refl;
+                        y =
+                            refl;
+                      };
                 };
           };
     }),

@@ -161,8 +161,14 @@ session_answers ws e s t before after (Ok d) reads was later edited solved count
       reads,
       (
         edited,
-        record
-            { before = s.pairs; pairs_before = was.pairs; after = t.pairs; pairs_after = solved.pairs; counts = counts },
+        record {
+          before = s.pairs;
+          pairs_before = was.pairs;
+          after = t.pairs;
+          pairs_after = solved.pairs;
+          counts =
+              counts;
+        },
       ),
       counted_raised d.solved before after raised later,
     )

@@ -7,7 +7,8 @@ use Rattle.pair_commands.proofs.MarkLines.{from_pair, from_row, from_col}
 use Rattle.pair_commands.proofs.mark_lines.mark_of.Goals as goal
 
 pub returns-in_default : goal.returns-in_default
-returns-in_default c x s = keyword_none (words c.args.line.now) (codes "MARK") (from_pair x) c.in_default.ensures s.match
+returns-in_default c x s = keyword_none (words c.args.line.now) (codes "MARK") (from_pair x) c.in_default.ensures
+    s.match
 
 pub returns-in_default-split_count : goal.returns-in_default-split_count
 returns-in_default-split_count c x s =

@@ -110,7 +110,8 @@ pub joined-requires-clause-place : goal.joined-requires-clause-place
 joined-requires-clause-place c = (chosen_of (goal.at.joined-requires-clause-place c).After-remove-other).nearest.place
 
 pub joined-requires-clause-vertex : goal.joined-requires-clause-vertex
-joined-requires-clause-vertex c = (chosen_of (goal.at.joined-requires-clause-vertex c).After-remove-other).nearest.vertex
+joined-requires-clause-vertex c = (chosen_of
+    (goal.at.joined-requires-clause-vertex c).After-remove-other).nearest.vertex
 
 pub renew-requires-clause-range : goal.renew-requires-clause-range
 renew-requires-clause-range c =

@@ -36,7 +36,8 @@ remade-requires-clause-ready c =
     let at = goal.at.remade-requires-clause-ready c in
     let S = c.args.sections.now in
     made_ready (without c.args.name.now S) c.in_ok-changed.changed.items c.in_ok-links.links.items
-    (parts at.In_ok-links) (links at.In_ok-links) (ready_dropped S c.args.name.now (ready S c.sections-2.ensures.accepted))
+    (parts at.In_ok-links) (links at.In_ok-links)
+    (ready_dropped S c.args.name.now (ready S c.sections-2.ensures.accepted))
 
 pub remade-requires-clause-flat : goal.remade-requires-clause-flat
 remade-requires-clause-flat c = flat_of c.in_ok-changed.changed.items c.in_ok-changed.ensures.level

@@ -45,5 +45,6 @@ returns-in-Ok c =
     ∙ sym c.in_default.ensures in (
       subst (IsLateRefusal T) late (late_is T c.requires.ready),
       c.in-Ok.ensures.made
-          ∙ ap₂ (λ (cost : CostParts) (rule : PairRule). ended_parts cost rule ss ls) c.cost.ensures.parts c.rule.ensures,
+          ∙ ap₂ (λ (cost : CostParts) (rule : PairRule). ended_parts cost rule ss ls) c.cost.ensures.parts
+          c.rule.ensures,
     )
