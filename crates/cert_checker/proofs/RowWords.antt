@@ -73,6 +73,28 @@ row_wrong old new all rest count width w more r e lt none row is m =
         let inside : count < length row = omega (arith, is.0, lt) in
         none z (g.0, subst IsModest here (All-get_or IsModest row count z inside is.1))
 
+-- nor is there a row where too few words are left, or too many
+pub row_short : (old new : List ℤ) (all rest : Line) (count width : ℕ) → RowSoFar old new all rest count → rest ≡ []
+    → count < width → (row : List ℤ) → IsValueRow width row → Matches all (row_line row) → ⊥
+row_short old new all rest count width r e lt row is m =
+    let a = r.only row m in
+    none_left a.0 a.1 (subst (λ (ws : Line). Matches ws (row_line a.0)) e a.2)
+  where
+    none_left : (zs : List ℤ) → row ≡ r.row ++ zs → Matches [] (row_line zs) → ⊥
+    none_left [] f g = omega (arith, ap length f, length-append r.row [], r.counted, is.0, lt)
+    none_left (z ∷ zs) f g = g
+
+pub row_long : (old new : List ℤ) (all rest : Line) (count width : ℕ) (w : List ℕ) (more : Line)
+    → RowSoFar old new all rest count → rest ≡ w ∷ more → count ≡ width → (row : List ℤ)
+    → IsValueRow width row → Matches all (row_line row) → ⊥
+row_long old new all rest count width w more r e n row is m =
+    let a = r.only row m in
+    some_left a.0 a.1 (subst (λ (ws : Line). Matches ws (row_line a.0)) e a.2)
+  where
+    some_left : (zs : List ℤ) → row ≡ r.row ++ zs → Matches (w ∷ more) (row_line zs) → ⊥
+    some_left [] f g = g
+    some_left (z ∷ zs) f g = omega (arith, ap length f, length-append r.row (z ∷ zs), r.counted, is.0, n)
+
 -- the whole row was read
 pub row_whole : (old new : List ℤ) (all rest : Line) (count width : ℕ) → RowSoFar old new all rest count → rest ≡ []
     → count ≡ width → PutsRow all width old new

@@ -3,7 +3,7 @@ use mir.Syntax.{w128}
 use Rattle.std.proofs.lemmas.Int.{ints}
 use Rattle.strip_graph.specs.Certificates.{IsModest}
 use Rattle.text_io.specs.Text.{words}
-use Rattle.cert_checker.proofs.RowWords.{row_none, row_more, row_wrong, row_whole}
+use Rattle.cert_checker.proofs.RowWords.{row_none, row_more, row_wrong, row_short, row_long, row_whole}
 use Rattle.cert_checker.proofs.reading.read_row.Goals as goal
 
 pub loop-done-init : goal.loop-done-init
@@ -32,3 +32,14 @@ pub returns-in-None : goal.returns-in-None
 returns-in-None c =
     row_whole c.args.values.now.items c.loop-done.values.items (words c.args.line.now) (words c.loop-done.rest.now)
     c.loop-done._done c.args.width c.loop-done.invariant c.in-None.ensures (omega (arith, c.loop-done-test.false))
+
+pub returns-in_default : goal.returns-in_default
+returns-in_default c =
+    row_short c.args.values.now.items c.loop-done.values.items (words c.args.line.now) (words c.loop-done.rest.now)
+    c.loop-done._done c.args.width c.loop-done.invariant c.in_default.ensures c.loop-done-test.true
+
+pub returns-in-Some-split_word : goal.returns-in-Some-split_word
+returns-in-Some-split_word c =
+    row_long c.args.values.now.items c.loop-done.values.items (words c.args.line.now) (words c.loop-done.rest.now)
+    c.loop-done._done c.args.width _ _ c.loop-done.invariant c.in-Some-split_word.ensures
+    (omega (arith, c.loop-done-test.false))

@@ -26,3 +26,7 @@ loop-second-preserved c second ordered from below against =
     (λ k l o f a. c.loop-second.invariant k o f l a)
     (λ o f a. untrue c.is_partner.result c.if-is_partner.false (c.is_partner.ensures.1 a)) second below ordered from
     against
+
+pub returns : goal.returns
+returns c t second ordered from below against =
+    c.loop-second.invariant second ordered from (omega (arith, below, c.loop-second-test.false)) against
