@@ -75,3 +75,11 @@ returns c =
     (c.in_ok-links.ensures ∙ ap (λ (rows : List (Vec Bool Global)).
     marked_links (held_layer low) (held_layer high) (cell (table_of rows))) c.deref.ensures.value
     ∙ ap₂ (λ (x y : Layer). marked_links x y (cell table)) (sym el) (sym eh))
+
+pub marked_links-requires-clause-rows : goal.marked_links-requires-clause-rows
+marked_links-requires-clause-rows c = omega (
+  arith,
+  ap length c.deref.ensures.value,
+  length-map c.in_ok-marks.marks.items (λ (v : Vec Bool Global). v.items),
+  (c.in_ok-marks.ensures c.args.sections.now.links c.requires.table).rows,
+)
