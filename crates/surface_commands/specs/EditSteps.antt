@@ -1,13 +1,26 @@
 -- What the code of `edit` has done for some lines.
-use Rattle.std.specs.Prelude.{ℕ, ◌≡◌, List, ◌++◌, length, sum_by, Option}
-use Rattle.text_io.specs.WordLists.{Line}
+use Rattle.std.specs.Prelude.{ℕ, ◌≡◌, ◌+◌, ◌≤◌, List, ◌++◌, drop, length, sum_by, Option}
+use Rattle.fku_types.specs.declared.limits.TheConstants.{MAX_CHECK_BYTES}
+use Rattle.text_io.specs.Text.{kept_from, lines}
+use Rattle.text_io.specs.WordLists.{Kept, Line}
 use Rattle.section_core.specs.Parts.{Parts}
 use Rattle.section_edits.specs.declared.edit.Edit.{Edit}
 use Rattle.triangle_meshes.specs.Meshes.{Surface}
 use Rattle.command_replies.specs.Reply.{counted}
 use Rattle.surface_core.specs.declared.surfaces.Built.{Built}
 use Rattle.command_replies.specs.Stages.{IsSurfaceOfOne}
+use Rattle.surface_commands.specs.declared.editing.Tail.{Tail}
 use Rattle.surface_commands.specs.Edit.{LineAnswer, Editing, IsLineAnswer, IsEditing, StandsFor, answer_text, answers_text, edits_text, solved_for}
+
+-- a tail begins inside a text of so many bytes, and no more lines than bytes come before it
+pub record IsTailOf (text : List ℕ) (tail : Tail) : Type 0 where
+  pub within : tail.at ≤ length text
+  pub passed : tail.passed ≤ tail.at
+  pub few : length text ≤ MAX_CHECK_BYTES
+
+-- its kept lines
+abbrev pub kept_in : List ℕ → Tail → List Kept
+kept_in text tail = kept_from (tail.passed + 1) (lines (drop tail.at text))
 
 -- a line was answered, and a solver's count is that after its new pairs
 abbrev pub IsApplied : Parts → Line → LineAnswer → Parts → ℕ → ℕ → Type 0

@@ -1,6 +1,6 @@
 //! The command `edit`.
 ghost use Rattle.std.specs.Prelude.{◌≡◌, ◌⊎◌, ◌<◌, ◌≤◌, ◌+◌, ◌++◌, codes, decimal, IfOk, OnOk, Ok, Err, [], drop, length, unwrap_or, IfErr};
-ghost use Rattle.text_io.specs.Text.{kept_from, lines, words};
+ghost use Rattle.text_io.specs.Text.{words};
 ghost use Rattle.text_io.specs.WordLists.{first_number, lines_of};
 ghost use Rattle.section_edits.specs.declared.edit.EditFault.TheVariants as refusal;
 ghost use Rattle.section_edits.specs.Words.{edit_fault_words};
@@ -10,7 +10,7 @@ ghost use Rattle.triangle_meshes.specs.Meshes.{surface_of, IsValid};
 ghost use Rattle.command_replies.specs.Reply.{Replies, refusal_text};
 ghost use Rattle.command_replies.specs.Stages.{on_front};
 ghost use Rattle.surface_commands.specs.Edit.{answer_text, answer_words, edit, edit_sections};
-ghost use Rattle.surface_commands.specs.EditSteps.{IsApplied, IsTextOfEdits, HasAnswered, HasEdited};
+ghost use Rattle.surface_commands.specs.EditSteps.{IsTailOf, kept_in, IsApplied, IsTextOfEdits, HasAnswered, HasEdited};
 
 use crate::writing::SurfaceWriter;
 use command_replies::only_sections;
@@ -33,10 +33,8 @@ struct Tail {
 
 // The number of the first kept line of a tail that is one edit too many.
 fn line_too_many(input: &[u8], tail: Tail) -> Option<u32>
-    requires at { tail.at ≤ length input.now }
-    requires few { length input.now ≤ MAX_CHECK_BYTES }
-    requires passed { tail.passed ≤ tail.at }
-    ensures { result ≡ first_number (drop MAX_EDITS (kept_from (tail.passed + 1) (lines (drop tail.at input.now)))) }
+    requires tail { IsTailOf input.now tail }
+    ensures { result ≡ first_number (drop MAX_EDITS (kept_in input.now tail)) }
 {
     let mut at = tail.at;
     let mut number = tail.passed;
@@ -140,11 +138,9 @@ fn put_answers<P: PairSolver>(
     session: &mut Session,
     solver: &mut P,
 ) -> Result<usize, NoMemory>
-    requires at { tail.at ≤ length input.now }
-    requires few { length input.now ≤ MAX_CHECK_BYTES }
-    requires passed { tail.passed ≤ tail.at }
+    requires tail { IsTailOf input.now tail }
     ensures edited { IfOk result (λ n.
-        HasEdited session.old.sections (lines_of (kept_from (tail.passed + 1) (lines (drop tail.at input.now)))) n
+        HasEdited session.old.sections (lines_of (kept_in input.now tail)) n
         out.old.items out.new.items session.new.sections (P.solved_pairs solver.old)
         (P.solved_pairs solver.new)) }
     ensures later { P.solved_pairs solver.old ≤ P.solved_pairs solver.new }
@@ -201,12 +197,10 @@ fn put_edits<P: PairSolver, W: SurfaceWriter>(
     solver: &mut P,
     writer: &W,
 ) -> Result<(), NoMemory>
-    requires at { tail.at ≤ length input.now }
-    requires few { length input.now ≤ MAX_CHECK_BYTES }
-    requires passed { tail.passed ≤ tail.at }
+    requires tail { IsTailOf input.now tail }
     ensures text { OnOk result
         (out.old.items ≡ [] → IsTextOfEdits W.format session.old.sections
-        (lines_of (kept_from (tail.passed + 1) (lines (drop tail.at input.now)))) out.new.items
+        (lines_of (kept_in input.now tail)) out.new.items
         (P.solved_pairs solver.old) (P.solved_pairs solver.new)) }
     ensures later { P.solved_pairs solver.old ≤ P.solved_pairs solver.new }
     ensures same_workers { P.worker_count solver.new ≡ P.worker_count solver.old }
@@ -226,12 +220,10 @@ fn edits_text<P: PairSolver, W: SurfaceWriter>(
     solver: &mut P,
     writer: &W,
 ) -> Result<Vec<u8>, NoMemory>
-    requires at { tail.at ≤ length input.now }
-    requires few { length input.now ≤ MAX_CHECK_BYTES }
-    requires passed { tail.passed ≤ tail.at }
+    requires tail { IsTailOf input.now tail }
     ensures text { IfOk result (λ v.
         IsTextOfEdits W.format session.sections
-        (lines_of (kept_from (tail.passed + 1) (lines (drop tail.at input.now))))
+        (lines_of (kept_in input.now tail))
         v.items (P.solved_pairs solver.old) (P.solved_pairs solver.new)) }
     ensures later { P.solved_pairs solver.old ≤ P.solved_pairs solver.new }
     ensures same_workers { P.worker_count solver.new ≡ P.worker_count solver.old }
@@ -251,11 +243,9 @@ fn edit_sections<P: PairSolver, W: SurfaceWriter>(
     solver: &mut P,
     writer: &W,
 ) -> Result<Vec<u8>, Fault>
-    requires at { tail.at ≤ length input.now }
-    requires few { length input.now ≤ MAX_CHECK_BYTES }
-    requires passed { tail.passed ≤ tail.at }
+    requires tail { IsTailOf input.now tail }
     ensures reply { Replies
-        (edit_sections W.format (kept_from (tail.passed + 1) (lines (drop tail.at input.now))) sections)
+        (edit_sections W.format (kept_in input.now tail) sections)
         (P.solved_pairs solver.old) (P.solved_pairs solver.new) result }
     ensures same_workers { P.worker_count solver.new ≡ P.worker_count solver.old }
 {

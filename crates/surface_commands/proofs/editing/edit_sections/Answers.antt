@@ -1,13 +1,12 @@
 use Rattle.std.proofs.Common.{◌≡◌, ◌+◌, inr, refl, arith, drop, subst, length, [], map, None, rules}
 use Rattle.fku_types.specs.declared.limits.TheConstants.{MAX_EDITS}
-use Rattle.text_io.specs.Text.{kept_from, lines}
 use Rattle.text_io.specs.WordLists.{lines_of, first_number}
 use Rattle.section_core.specs.Parts.{Parts}
 use Rattle.section_pairs.specs.SectionFaults.{ArePairs, IsFound}
 use Rattle.section_pairs.specs.Pairs.{pair_parts}
 use Rattle.command_replies.specs.Reply.{Then}
 use Rattle.surface_commands.specs.Edit.{AreFew, IsTooMany, on_edits}
-use Rattle.surface_commands.specs.EditSteps.{IsTextOfEdits}
+use Rattle.surface_commands.specs.EditSteps.{kept_in, IsTextOfEdits}
 use Rattle.command_replies.proofs.ReplyLemmas.{failed}
 use Rattle.surface_commands.proofs.EditLemmas.{edits_told, few_lines, left_count, many_refused}
 use Rattle.surface_commands.proofs.editing.edit_sections.Goals as goal
@@ -15,7 +14,7 @@ use Rattle.surface_commands.proofs.editing.edit_sections.Goals as goal
 pub returns-in_err-find_pairs-clause-reply : goal.returns-in_err-find_pairs-clause-reply
 returns-in_err-find_pairs-clause-reply g c =
     let S = c.args.sections in
-    let tail = kept_from (c.args.tail.passed + 1) (lines (drop c.args.tail.at c.args.input.now)) in
+    let tail = kept_in c.args.input.now c.args.tail in
     let n = g.P.PairSolver.solved_pairs c.args.solver.now in
     failed (IsFound S) (ArePairs S) (λ ps.
     Then (IsTooMany tail) (AreFew tail) (on_edits g.W.SurfaceWriter.format S (length ps))) n n
@@ -24,7 +23,7 @@ returns-in_err-find_pairs-clause-reply g c =
 
 pub returns-in-Some-clause-reply : goal.returns-in-Some-clause-reply
 returns-in-Some-clause-reply g c =
-    let tail = kept_from (c.args.tail.passed + 1) (lines (drop c.args.tail.at c.args.input.now)) in
+    let tail = kept_in c.args.input.now c.args.tail in
     many_refused g.W.SurfaceWriter.format c.args.sections tail (map pair_parts c.in_ok-find_pairs.field-0.items)
     c.in-Some.line (g.P.PairSolver.solved_pairs c.args.solver.now) c.in_ok-find_pairs.ensures.pairs
     c.in-Some.ensures
@@ -32,7 +31,7 @@ returns-in-Some-clause-reply g c =
 pub returns-in_err-session-clause-reply : goal.returns-in_err-session-clause-reply
 returns-in_err-session-clause-reply g c =
     let S = c.args.sections in
-    let tail = kept_from (c.args.tail.passed + 1) (lines (drop c.args.tail.at c.args.input.now)) in
+    let tail = kept_in c.args.input.now c.args.tail in
     let before = g.P.PairSolver.solved_pairs c.args.solver.now in
     let after = g.P.PairSolver.solved_pairs c.open.new.solver in
     let fault = c.in_err-session.field-0.0 in
@@ -46,7 +45,7 @@ returns-in_err-session-clause-reply g c =
 pub returns-clause-reply : goal.returns-clause-reply
 returns-clause-reply g c =
     let S = c.args.sections in
-    let tail = kept_from (c.args.tail.passed + 1) (lines (drop c.args.tail.at c.args.input.now)) in
+    let tail = kept_in c.args.input.now c.args.tail in
     let session = c.in_ok-session.session in
     let before = g.P.PairSolver.solved_pairs c.args.solver.now in
     let middle = g.P.PairSolver.solved_pairs c.open.new.solver in

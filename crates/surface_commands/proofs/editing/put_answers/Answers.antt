@@ -5,8 +5,8 @@ use Rattle.surface_commands.proofs.editing.put_answers.Goals as goal
 
 pub loop-line-init : goal.loop-line-init
 loop-line-init g c = record {
-  within = c.requires.at;
-  passed = c.requires.passed;
+  within = c.requires.tail.within;
+  passed = c.requires.tail.passed;
   few = omega arith;
   later = omega arith;
   same_workers = refl;

@@ -2,6 +2,7 @@ use Rattle.std.proofs.Common.{◌≡◌, ◌+◌, ◌-◌, ◌≤◌, length, dr
 use Rattle.text_io.specs.Text.{lines, kept_from}
 use Rattle.text_io.specs.WordLists.{lines_of}
 use Rattle.surface_commands.proofs.EditLemmas.{SoFar}
+use Rattle.surface_commands.specs.EditSteps.{kept_in}
 use Rattle.surface_commands.proofs.editing.put_answers.Given as goal
 
 abbrev pub invariant-loop-line : goal.invariant-loop-line
@@ -11,7 +12,7 @@ invariant-loop-line g l = record {
   few : l.count ≤ l.at;
   later : g.P.PairSolver.solved_pairs l.fn.solver ≤ g.P.PairSolver.solved_pairs l.solver;
   same_workers : g.P.PairSolver.worker_count l.solver ≡ g.P.PairSolver.worker_count l.fn.solver;
-  so_far : SoFar l.fn.session.sections (lines_of (kept_from (l.fn.tail.passed + 1) (lines (drop l.fn.tail.at l.input))))
+  so_far : SoFar l.fn.session.sections (lines_of (kept_in l.input l.fn.tail))
       (lines_of (kept_from (l.number + 1) (lines (drop l.at l.input))))
       l.count l.fn.out.items l.out.items l.session.sections (g.P.PairSolver.solved_pairs l.fn.solver)
       (g.P.PairSolver.solved_pairs l.solver);
