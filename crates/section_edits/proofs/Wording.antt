@@ -49,13 +49,6 @@ none_of k ws a b c d e (Remove name i) (m, w) = iff_false (bytes_eq-Decides k (c
 none_of k ws a b c d e (AddContour z name ps) (m, w) = iff_false (bytes_eq-Decides k (codes "ADD")) d m.0
 none_of k ws a b c d e (RemoveContour name) (m, w) = iff_false (bytes_eq-Decides k (codes "DROP")) e m.0
 
-pub nothing : IsNoEdit []
-nothing (Move name i x y) (m, w) = m
-nothing (Insert name i x y) (m, w) = m
-nothing (Remove name i) (m, w) = m
-nothing (AddContour z name ps) (m, w) = m
-nothing (RemoveContour name) (m, w) = m
-
 -- ---- places
 pub number_once : (w : List ℕ) (a b : ℤ) → number_of w ≡ Some a → number_of w ≡ Some b → a ≡ b
 number_once w a b e f = let g : Some a ≡ Some b = sym e ∙ f in cc
