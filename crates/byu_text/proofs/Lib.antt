@@ -22,8 +22,6 @@ pub mod Blanks
 pub mod SixDigits
 pub mod LineFields
 pub mod Steps
-pub mod EdgeKeys
-pub mod EdgeNumbers
 pub mod PlainFronts
 mod WorkedReading
 mod FirstLine

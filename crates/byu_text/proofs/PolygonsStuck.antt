@@ -1,15 +1,16 @@
 -- If no line of a polygon of a valid mesh can follow, or more follows the last one, the fault is there.
-use Rattle.std.proofs.Common.{◌≡◌, ℕ, suc, ◌+◌, ◌*◌, ◌/◌, ◌<◌, List, ◌∷◌, ◌++◌, length, map, ap, ◌∙◌, arith, append_assoc, subst, All, add-one}
+use Rattle.std.proofs.Common.{◌≡◌, ℕ, suc, ◌+◌, ◌*◌, ◌/◌, ◌<◌, ◌≤◌, List, ◌∷◌, ◌++◌, length, map, ap, ◌∙◌, arith, append_assoc, subst, All, add-one}
 use Rattle.std.specs.Prelude.{sum}
 use Rattle.std.specs.List.{concat, AllByRecursion}
 use Rattle.std.proofs.lemmas.List.{length-append, length-map, map-append}
 use Rattle.std.proofs.lemmas.List.Elements.{recursion_from_All, All-from_recursion}
 use Rattle.std.proofs.lemmas.List.Folds.{concat-append}
+use Rattle.fku_types.specs.declared.limits.TheConstants.{MAX_MESH_BYTES}
 use Rattle.fku_types.specs.declared.points.Point.{Point}
 use Rattle.fku_types.proofs.ListLaws.{all_front, all_amid}
 use Rattle.triangle_meshes.specs.Meshes.{Surface}
-use Rattle.byu_text.specs.Byu.{polygon_line}
-use Rattle.byu_text.specs.Reading.{ReadsAsMesh, HasMeshFault}
+use Rattle.byu_text.specs.Byu.{byu_of, polygon_line}
+use Rattle.byu_text.specs.Reading.{IsMesh, ReadsAsMesh, HasMeshFault}
 use Rattle.byu_text.specs.Pieces.{Counts, mesh_head_line, AreMeshCounts, size_lines, point_lines, AreSizes, ArePoints, AreTriangles, IsKnownTriangle}
 use Rattle.byu_text.specs.Stages.{NoneOf}
 use Rattle.byu_text.proofs.Cancel.{split_same}
@@ -116,7 +117,7 @@ triangle_fault text h sizes points triangles rest i a all c every d l e excluded
 
 -- ---- after the last line
 
-pub whole_width : (h : Counts) (sizes : List ℕ) (points : List Point) (triangles : List (List ℕ))
+whole_width : (h : Counts) (sizes : List ℕ) (points : List Point) (triangles : List (List ℕ))
     → HasPieces h sizes points triangles
     → length (concat (lines_with h sizes points triangles)) ≡ 33
     + (17 * h.parts + ((36 * h.vertices + (h.vertices + 1) / 2) + 25 * h.polygons))
@@ -138,6 +139,19 @@ whole_width h sizes points triangles p =
       p.parts,
       p.vertices,
       p.polygons,
+    )
+
+-- the text of a mesh is short enough to be read
+pub mesh_width : (s : Surface) → IsMesh s → length (byu_of s) ≤ MAX_MESH_BYTES
+mesh_width s is =
+    let v = is.valid in
+    omega (
+      arith,
+      ap length (written s),
+      whole_width (head_of s) (sizes_of s) s.vertices (polygons_of s) (pieces_of s is),
+      v.few_parts,
+      v.few_vertices,
+      v.few_triangles,
     )
 
 pub end_fault : (text : List ℕ) (h : Counts) (sizes : List ℕ) (points : List Point) (triangles : List (List ℕ))

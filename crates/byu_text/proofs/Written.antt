@@ -5,13 +5,14 @@ use Rattle.std.specs.List.{flat_map, concat, AllByRecursion}
 use Rattle.std.proofs.lemmas.List.{length-append, length-map, append-nil}
 use Rattle.std.proofs.lemmas.List.Concat.{flat_map-append, length-flat_map}
 use Rattle.std.proofs.lemmas.List.Sums.{sum-map, sum_by-cons}
-use Rattle.std.proofs.lemmas.List.Elements.{All-nil, All-head, All-tail, All-append, All-map, All-take, All-drop}
+use Rattle.std.proofs.lemmas.List.Elements.{All-head, All-tail, All-map, All-take, All-drop}
 use Rattle.std.proofs.lemmas.List.Folds.{concat-append}
 use Rattle.fku_types.specs.declared.points.Point.{Point}
 use Rattle.fku_types.specs.Points.{IsInRange}
 use Rattle.fku_types.proofs.ListLaws.{all_join}
 use Rattle.triangle_meshes.specs.Meshes.{Surface}
 use Rattle.byu_text.specs.Fields.{coordinates_line}
+use Rattle.triangle_meshes.proofs.Parts.{all_in_parts}
 use Rattle.byu_text.specs.Byu.{counts_line, part_ranges, vertex_lines, polygon_line, byu_of}
 use Rattle.byu_text.specs.Reading.{IsMesh}
 use Rattle.byu_text.specs.Pieces.{Counts, size_line, mesh_head_line, AreMeshCounts, size_lines, point_lines, IsKnownTriangle}
@@ -88,12 +89,6 @@ length-le-sum (n ∷ ns) a = omega (
   length-le-sum ns (All-tail (λ n. 1 ≤ n) n ns a),
 )
 
-pub all_flat : (P : List ℕ → Type 0) (parts : List (List (List ℕ))) → All (All P) parts
-    → All P (flat_map (λ part. part) parts)
-all_flat P [] a = All-nil P
-all_flat P (part ∷ parts) a = All-append P part (flat_map (λ part. part) parts) (All-head (All P) part parts a)
-    (all_flat P parts (All-tail (All P) part parts a))
-
 -- the pieces of a valid mesh's text
 pub record HasPieces (h : Counts) (sizes : List ℕ) (points : List Point) (triangles : List (List ℕ)) : Type 0 where
   pub head : AreMeshCounts h
@@ -131,7 +126,7 @@ pieces_of s m =
       sum = sum-map length s.parts;
       range = v.in_range;
       vertices = refl;
-      known = all_flat (IsKnownTriangle (head_of s)) s.parts both;
+      known = all_in_parts (IsKnownTriangle (head_of s)) s.parts both;
       polygons = length-flat_map (λ part. part) s.parts;
     }
 

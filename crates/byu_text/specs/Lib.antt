@@ -6,5 +6,4 @@ pub mod Reading
 pub mod Answers
 pub mod Pieces
 pub mod Stages
-pub mod Keys
 pub mod Fronts

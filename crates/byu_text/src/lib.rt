@@ -1,8 +1,7 @@
-//! The text of a mesh, in the layout of a MOVIE.BYU polygon file: written, read, and counted.
+//! The text of a mesh, in the layout of a MOVIE.BYU polygon file, written and read.
 #![tactic(auto)]
 
 mod coordinates;
-mod counting;
 mod fields;
 mod head;
 mod laws;
@@ -16,7 +15,6 @@ mod reading_laws;
 mod sizes;
 mod texts;
 
-pub use counting::{ByuCounts, counts};
 pub use laws::{coordinates_have_one_text, numbers_have_one_text};
 pub use reading::read_byu;
 pub use reading_laws::{first_lines_tell_a_front, read_back, texts_have_one_reading};

@@ -1,5 +1,5 @@
 //! The lines of the vertices.
-ghost use Rattle.std.specs.Prelude.{◌≡◌, ℕ, ◌+◌, ◌-◌, ◌*◌, ◌<◌, ◌≤◌, ◌^◌, ◌++◌, List, length, drop, MatchOption, IfOk, IfErr};
+ghost use Rattle.std.specs.Prelude.{◌≡◌, ℕ, ◌+◌, ◌*◌, ◌≤◌, ◌^◌, ◌++◌, List, length, drop, MatchOption, IfOk, IfErr};
 ghost use Rattle.fku_types.specs.Points.{IsInRange};
 ghost use Rattle.byu_text.specs.Fields.{point_fields, coordinates_line};
 ghost use Rattle.byu_text.specs.Stages.{counts_of, HasHead, HasSizes, HasPointPairs, HasPoints, AreNext, NoneOf};

@@ -1,5 +1,5 @@
 //! The lines of the polygons.
-ghost use Rattle.std.specs.Prelude.{◌≡◌, ℕ, ◌+◌, ◌*◌, ◌<◌, ◌≤◌, ◌^◌, ◌++◌, ◌↔◌, IsTrue, List, length, drop, sum, MatchOption, IfOk, IfErr};
+ghost use Rattle.std.specs.Prelude.{◌≡◌, ℕ, ◌+◌, ◌*◌, ◌≤◌, ◌^◌, ◌++◌, ◌↔◌, IsTrue, List, length, drop, sum, MatchOption, IfOk, IfErr};
 ghost use Rattle.fku_types.specs.declared.points.Point.{Point};
 ghost use Rattle.triangle_meshes.specs.Meshes.{triangle_lists};
 ghost use Rattle.byu_text.specs.Byu.{polygon_line};

@@ -1,5 +1,5 @@
 //! What each line of a certificate's text says, line by line.
-ghost use Rattle.std.specs.Prelude.{◌≡◌, ℕ, ◌≤◌, ◌<◌, List, map, IfOk, MatchOption, MatchBool};
+ghost use Rattle.std.specs.Prelude.{◌≡◌, ℕ, ◌≤◌, List, map, IfOk, MatchOption, MatchBool};
 ghost use Rattle.text_io.specs.Text.{words};
 ghost use Rattle.text_io.specs.WordLists.{Matches};
 ghost use Rattle.strip_graph.specs.Certificates.{IsModest};

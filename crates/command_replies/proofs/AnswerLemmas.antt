@@ -1,5 +1,5 @@
 -- The answer for what a command returns.
-use Rattle.std.proofs.Common.{◌≡◌, ◌∙◌, ℕ}
+use Rattle.std.proofs.Common.{◌≡◌, ℕ}
 use Rattle.command_replies.specs.declared.answers.Answer.{Answer}
 use Rattle.command_replies.specs.Reply.{Reply, text_bytes, IsWritten, counted}
 

@@ -12,6 +12,3 @@ pub greatest : (l a r : ℤ) → SFits w32 l → SFits w32 a → r ≡ int_max (
     → (a ≤ℤ to_z w32 (of_z w32 r)) × (l ≤ℤ to_z w32 (of_z w32 r))
 greatest l a r f g h = let e = max_passed l a r f g h in
     (omega (arith, ints, clamps, e), omega (arith, ints, clamps, e))
-
-pub below : (a b d : ℤ) → a ≤ℤ b → b ≤ℤ d → a ≤ℤ d
-below a b d h k = omega (arith, ints)

@@ -1,6 +1,6 @@
 //! The places of contours, by their names.
 
-ghost use Rattle.std.specs.Prelude.{◌≡◌, ◌++◌, ◌<◌, ◌≤◌, ℕ, List, [], Some, None, OnOk, IfOk, length, map, All, slice_index_or, bytes_eq, if◌then◌else◌};
+ghost use Rattle.std.specs.Prelude.{◌≡◌, ◌++◌, ◌≤◌, ℕ, List, [], Some, None, OnOk, IfOk, length, map, All, slice_index_or, bytes_eq, if◌then◌else◌};
 ghost use Rattle.std.specs.Option.{option_or};
 ghost use Rattle.indexmap.specs.IndexMap.{get};
 ghost use Rattle.correspondence.specs.Links.{contour_places, contour_places_in};

@@ -1,8 +1,10 @@
 -- Laws on lists: what holds of each item as a recursion, a list at one of its places, and one more item.
-use Rattle.std.proofs.Common.{◌≡◌, ℕ, zero, suc, ◌+◌, ◌<◌, ◌≤◌, ◌||◌, Bool, List, [], ◌∷◌, ◌++◌, length, map, get_or, set, take, drop, remove, get_or-set_other, get_or-set_same, refl, sym, ap, ap₂, ◌∙◌, subst, add-one, drop-cons, inl, inr, arith, All}
+use Rattle.std.proofs.Common.{◌≡◌, ℕ, zero, suc, ◌+◌, ◌<◌, ◌≤◌, ◌||◌, Bool, cond, List, [], ◌∷◌, ◌++◌, length, map, get_or, set, take, drop, remove, get_or-set_other, get_or-set_same, refl, sym, ap, ap₂, ◌∙◌, subst, add-one, drop-cons, inl, inr, arith, All}
+use Rattle.std.specs.Prelude.{count_by}
 use Rattle.std.specs.List.{range_with_len, list_any, flat_map, filter, AllByRecursion}
 use Rattle.std.proofs.lemmas.Bool.{cases_lt}
 use Rattle.std.proofs.lemmas.List.{take_more, take-append-drop, map-append}
+use Rattle.std.proofs.lemmas.List.Sums.{sum_by-cons}
 use Rattle.std.proofs.lemmas.List.Elements.{All-push, All-filter, All-from_recursion, recursion_from_All}
 
 -- ---- what holds of each item
@@ -118,3 +120,7 @@ range_more n = ap (range_with_len 0) (add-one n) ∙ range_next 0 n
 pub range_below : (n a m : ℕ) → a + m ≤ n → AllByRecursion (λ k. k < n) (range_with_len a m)
 range_below n a zero le = tt
 range_below n a (suc m) le = (omega arith, range_below n (a + 1) m (omega arith))
+
+pub count-cons : {X : Type 0} (p : X → Bool) (x : X) (xs : List X)
+    → count_by p (x ∷ xs) ≡ cond (p x) 1 0 + count_by p xs
+count-cons {X = X} p x xs = sum_by-cons (λ (y : X). cond (p y) 1 0) x xs

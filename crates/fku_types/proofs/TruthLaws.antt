@@ -1,7 +1,7 @@
 -- Laws on truth values, and on tests of numbers.
-use Rattle.std.proofs.Common.{◌≡◌, ◌≤◌, ◌&&◌, ◌||◌, Bool, true, false, cond, refl, sym, arith, ℤ, ◌≤ℤ◌}
+use Rattle.std.proofs.Common.{◌≡◌, ◌≤◌, ◌&&◌, ◌||◌, Bool, true, false, cond, refl, sym, arith, ℤ, ◌<ℤ◌, ◌≤ℤ◌}
 use Rattle.std.specs.Ordering.{int_eq}
-use Rattle.std.specs.Prelude.{int_le}
+use Rattle.std.specs.Prelude.{int_le, int_lt}
 use Rattle.std.proofs.lemmas.Int.{ints}
 
 pub same_truths : (a b : Bool) → (a ≡ true → b ≡ true) → (b ≡ true → a ≡ true) → a ≡ b
@@ -28,3 +28,15 @@ int_eq_is a b e = grind (arith, ints)
 
 pub int_le_is : (a b : ℤ) → int_le a b ≡ true → a ≤ℤ b
 int_le_is a b e = grind (arith, ints)
+
+pub int_lt_is : (a b : ℤ) → int_lt a b ≡ true → a <ℤ b
+int_lt_is a b e = grind (arith, ints)
+
+pub int_lt_not : (a b : ℤ) → int_lt a b ≡ false → b ≤ℤ a
+int_lt_not a b e = grind (arith, ints)
+
+pub int_lt_test : (a b : ℤ) → a <ℤ b → int_lt a b ≡ true
+int_lt_test a b h = grind (arith, ints)
+
+pub int_le_through : (a b c : ℤ) → a ≤ℤ b → b ≤ℤ c → a ≤ℤ c
+int_le_through a b c h k = omega (arith, ints)

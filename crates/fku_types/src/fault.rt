@@ -1,5 +1,5 @@
 //! Faults, and the words of an output that report them.
-ghost use Rattle.std.specs.Prelude.{◌≡◌, ◌≤◌, ◌+◌, ◌++◌, length, codes, decimal};
+ghost use Rattle.std.specs.Prelude.{◌≡◌, ◌≤◌, ◌++◌, length, codes, decimal};
 ghost use Rattle.std.specs.Option.{option_map};
 ghost use Rattle.fku_types.specs.Fault.{fault_words, limit_word, cause_words, mark_words};
 

@@ -45,7 +45,7 @@ mean_z p q a b c =
     ∙ ap₂ ◌+ℤ◌ (ap₂ ◌+ℤ◌ (ap (λ (k : ℤ). k *ℤ (a.z -ℤ p.z)) (turn_moved p q b c))
     (ap (λ (k : ℤ). k *ℤ (b.z -ℤ p.z)) (turn_moved p q c a))) (ap (λ (k : ℤ). k *ℤ (c.z -ℤ p.z)) (turn_moved p q a b))
 
-three : (l m n l' m' n' : ℤ) → l ≡ l' → m ≡ m' → n ≡ n' → have_one_sign l m n ≡ have_one_sign l' m' n'
+pub three : (l m n l' m' n' : ℤ) → l ≡ l' → m ≡ m' → n ≡ n' → have_one_sign l m n ≡ have_one_sign l' m' n'
 three l m n l' m' n' e f g = ap₂ (λ (x y : ℤ). have_one_sign x y n) e f ∙ ap (λ (z : ℤ). have_one_sign l' m' z) g
 
 passes_moved : (p q : Point) (t : Corners) → passes (moved p) (moved q) (moved_corners t) ≡ passes p q t

@@ -3,7 +3,7 @@ use Rattle.std.proofs.Common.{◌≡◌, ℤ, neg_ℤ, ◌+ℤ◌, ◌-ℤ◌, �
 use Rattle.std.proofs.lemmas.Int.{ints}
 use Rattle.fku_types.specs.declared.points.Point.{Point}
 use Rattle.plane_geom.specs.Planes.{cross_product}
-use Rattle.plane_geom.proofs.Vectors.{add-mul, sub-mul, mul-sub, mul-comm, neg-mul, ends}
+use Rattle.plane_geom.proofs.Vectors.{add-mul, sub-mul, mul-sub, mul-comm, ends, mul-neg}
 use Rattle.triangle_meshes.specs.Volumes.{determinant}
 use Rattle.triangle_meshes.proofs.Determinants.{three_turned}
 
@@ -29,9 +29,6 @@ by_x a b c =
 
 plane_turns : (p q : Point) → plane p q ≡ neg_ℤ (plane q p)
 plane_turns p q = omega (arith, ints, mul-comm p.y q.z, mul-comm p.z q.y)
-
-mul-neg : (a b : ℤ) → a *ℤ neg_ℤ b ≡ neg_ℤ (a *ℤ b)
-mul-neg a b = mul-comm a (neg_ℤ b) ∙ neg-mul b a ∙ ap neg_ℤ (mul-comm b a)
 
 plus_neg : (x y z : ℤ) → (x +ℤ neg_ℤ y) +ℤ z ≡ (x -ℤ y) +ℤ z
 plus_neg x y z = omega (arith, ints)

@@ -9,14 +9,7 @@ use Rattle.std.proofs.lemmas.List.Sums.{sum_by-take-drop, sum_by_more_le}
 use Rattle.mesh_measures.specs.declared.triangle_boxes.Boxed.{Boxed}
 use Rattle.mesh_measures.specs.TriangleBoxes.{IsBoxed, ComesAfter, IsSwept, crosses, crosses_at, x_of, z_of, RisesBy, LiesPast}
 use Rattle.mesh_measures.proofs.Apart.{before_x, before_z}
-use Rattle.mesh_measures.proofs.Tallies.{count-cons}
-
--- ---- tests by a coordinate that rises
-pub le_is : (a b : ℤ) → int_le a b ≡ true → a ≤ℤ b
-le_is a b e = grind (arith, ints)
-
-pub not_less_is : (a b : ℤ) → int_lt a b ≡ false → b ≤ℤ a
-not_less_is a b e = grind (arith, ints)
+use Rattle.fku_types.proofs.ListLaws.{count-cons}
 
 less_before : (a b m : ℤ) → a ≤ℤ b → int_lt b m ≡ true → int_lt a m ≡ true
 less_before a b m h e = sym (let k : true ≡ int_lt a m = omega (arith, ints) in k)

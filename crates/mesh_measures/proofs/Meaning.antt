@@ -1,11 +1,11 @@
 -- An edge passes through a triangle exactly if a point strictly between its ends lies strictly inside the triangle, and
 -- the edge does not lie in its plane.
-use Rattle.std.proofs.Common.{◌≡◌, ◌↔◌, inl, inr, ℕ, ◌+◌, ◌<◌, true, ◌||◌, ℤ, pos, neg_ℤ, ◌+ℤ◌, ◌-ℤ◌, ◌*ℤ◌, ◌≤ℤ◌, ◌<ℤ◌, int_lt, sym, ap, ap₂, ◌∙◌, arith}
+use Rattle.std.proofs.Common.{◌≡◌, ◌↔◌, inl, inr, ℕ, ◌+◌, ◌<◌, true, ◌||◌, ℤ, pos, neg_ℤ, ◌+ℤ◌, ◌-ℤ◌, ◌*ℤ◌, ◌≤ℤ◌, ◌<ℤ◌, sym, ap, ap₂, ◌∙◌, arith}
 use Rattle.std.proofs.lemmas.Int.{ints, by_lt_z}
 use Rattle.std.proofs.lemmas.Bool.{and_from, or_cases, or_left, or_right}
 use Rattle.fku_types.specs.declared.points.Point.{Point}
 use Rattle.plane_geom.specs.Planes.{cross_product as product}
-use Rattle.plane_geom.proofs.Vectors.{add-mul, mul-add, mul-sub, mul-assoc, le-mul, cancel-le}
+use Rattle.plane_geom.proofs.Vectors.{add-mul, mul-add, mul-sub, mul-assoc, le-mul, mul-neg}
 use Rattle.mesh_measures.specs.declared.crossing.Corners.{Corners}
 use Rattle.triangle_meshes.specs.Volumes.{seen_from, determinant}
 use Rattle.mesh_measures.specs.Turns.{turn}
@@ -13,9 +13,10 @@ use Rattle.mesh_measures.specs.Crossings.{are_opposite, have_one_sign, passes, p
 use Rattle.mesh_measures.specs.Meetings.{SameMean, MeetsInside, PassesThrough, Pierces, Cross}
 use Rattle.triangle_meshes.proofs.Determinants.{moved_on, determinant-turns}
 use Rattle.mesh_measures.proofs.Weights.{before, after, mean_x}
-use Rattle.mesh_measures.proofs.Parted.{passed_weights, ends_apart, apart, sum_split, mul-neg}
+use Rattle.mesh_measures.proofs.Parted.{passed_weights, ends_apart, apart, sum_split, not_less, not_more, at_least}
 use Rattle.mesh_measures.proofs.Axes.{mean_y, mean_z}
 use Rattle.mesh_measures.proofs.Mutual.{first_in_plane, second_in_plane, third_in_plane}
+use Rattle.fku_types.proofs.TruthLaws.{int_lt_test}
 
 -- ---- what an edge that passes through a triangle has
 -- a mean as seen from p, and the same as seen from anywhere
@@ -153,21 +154,12 @@ record Alike (x y : ℤ) : Type 0 where
 not_positive : (j : ℕ) (y : ℤ) → y ≤ℤ pos 0 → (pos j *ℤ y) ≤ℤ pos 0
 not_positive j y h = let k : (pos j *ℤ y) ≤ℤ (pos j *ℤ pos 0) = le-mul j y (pos 0) h in omega (arith, ints)
 
-not_negative : (j : ℕ) (y : ℤ) → pos 0 ≤ℤ y → pos 0 ≤ℤ (pos j *ℤ y)
-not_negative j y h = let k : (pos j *ℤ pos 0) ≤ℤ (pos j *ℤ y) = le-mul j (pos 0) y h in omega (arith, ints)
-
-at_most_none : (i : ℕ) (x : ℤ) → 0 < i → (pos i *ℤ x) ≤ℤ pos 0 → x ≤ℤ pos 0
-at_most_none i x p h = cancel-le i x (pos 0) p (let k : (pos i *ℤ x) ≤ℤ (pos i *ℤ pos 0) = omega (arith, ints) in k)
-
-at_least_none : (i : ℕ) (x : ℤ) → 0 < i → pos 0 ≤ℤ (pos i *ℤ x) → pos 0 ≤ℤ x
-at_least_none i x p h = cancel-le i (pos 0) x p (let k : (pos i *ℤ pos 0) ≤ℤ (pos i *ℤ x) = omega (arith, ints) in k)
-
 low_alike : (x y : ℤ) → Alike x y → y ≤ℤ pos 0 → x ≤ℤ pos 0
-low_alike x y w h = at_most_none w.i x w.some_i (let k = not_positive w.j y h in let e = w.same in omega (arith, ints))
+low_alike x y w h = not_more w.i x w.some_i (let k = not_positive w.j y h in let e = w.same in omega (arith, ints))
 
 high_alike : (x y : ℤ) → Alike x y → pos 0 ≤ℤ y → pos 0 ≤ℤ x
-high_alike x y w h = at_least_none w.i x w.some_i
-    (let k = not_negative w.j y h in let e = w.same in omega (arith, ints))
+high_alike x y w h = not_less w.i x w.some_i
+    (let k = at_least w.j y h in let e = w.same in omega (arith, ints))
 
 turned_alike : (x y : ℤ) → Alike x y → Alike y x
 turned_alike x y w = record { i = w.j; j = w.i; some_i = w.some_j; some_j = w.some_i; same = sym w.same }
@@ -178,9 +170,6 @@ positive_alike x y w h = by_lt_z (pos 0) y (λ k. k) (λ k. absurd (let l = low_
 negative_alike : (x y : ℤ) → Alike x y → x <ℤ pos 0 → y <ℤ pos 0
 negative_alike x y w h = by_lt_z y (pos 0) (λ k. k) (λ k. absurd (let l = high_alike x y w k in omega (arith, ints)))
 
-less_test : (a b : ℤ) → a <ℤ b → int_lt a b ≡ true
-less_test a b h = sym (let k : true ≡ int_lt a b = omega (arith, ints) in k)
-
 none_between : (x : ℤ) → x ≤ℤ pos 0 → pos 0 ≤ℤ x → x ≡ pos 0
 none_between x h k = omega (arith, ints)
 
@@ -188,11 +177,11 @@ all_one_sign : (l m n : ℤ) → Alike l m → Alike l n → (l ≡ pos 0 → m 
     → have_one_sign l m n ≡ true
 all_one_sign l m n e f some =
     by_lt_z (pos 0) l
-    (λ h. or_left _ _ (and_from _ _ (and_from _ _ (less_test (pos 0) l h)
-    (less_test (pos 0) m (positive_alike l m e h))) (less_test (pos 0) n (positive_alike l n f h))))
+    (λ h. or_left _ _ (and_from _ _ (and_from _ _ (int_lt_test (pos 0) l h)
+    (int_lt_test (pos 0) m (positive_alike l m e h))) (int_lt_test (pos 0) n (positive_alike l n f h))))
     (λ low. by_lt_z l (pos 0)
-    (λ h. or_right _ _ (and_from _ _ (and_from _ _ (less_test l (pos 0) h)
-    (less_test m (pos 0) (negative_alike l m e h))) (less_test n (pos 0) (negative_alike l n f h))))
+    (λ h. or_right _ _ (and_from _ _ (and_from _ _ (int_lt_test l (pos 0) h)
+    (int_lt_test m (pos 0) (negative_alike l m e h))) (int_lt_test n (pos 0) (negative_alike l n f h))))
     (λ high. absurd
     (let none = none_between l low high in
     some none
@@ -209,14 +198,14 @@ both_sides : (s r : ℕ) (m n : ℤ) → 0 < s → 0 < r → pos s *ℤ m ≡ ne
     → are_opposite m n ≡ true
 both_sides s r m n some_s some_r e aside =
     by_lt_z m (pos 0)
-    (λ h. or_left _ _ (and_from _ _ (less_test m (pos 0) h)
-    (by_lt_z (pos 0) n (less_test (pos 0) n)
-    (λ k. absurd (let l = at_least_none s m some_s (neg_high (pos s *ℤ m) (pos r *ℤ n) e (not_positive r n k)) in
+    (λ h. or_left _ _ (and_from _ _ (int_lt_test m (pos 0) h)
+    (by_lt_z (pos 0) n (int_lt_test (pos 0) n)
+    (λ k. absurd (let l = not_less s m some_s (neg_high (pos s *ℤ m) (pos r *ℤ n) e (not_positive r n k)) in
     omega (arith, ints))))))
     (λ high. by_lt_z (pos 0) m
-    (λ h. or_right _ _ (and_from _ _ (less_test (pos 0) m h)
-    (by_lt_z n (pos 0) (less_test n (pos 0))
-    (λ k. absurd (let l = at_most_none s m some_s (neg_low (pos s *ℤ m) (pos r *ℤ n) e (not_negative r n k)) in
+    (λ h. or_right _ _ (and_from _ _ (int_lt_test (pos 0) m h)
+    (by_lt_z n (pos 0) (int_lt_test n (pos 0))
+    (λ k. absurd (let l = not_more s m some_s (neg_low (pos s *ℤ m) (pos r *ℤ n) e (at_least r n k)) in
     omega (arith, ints))))))
     (λ low. absurd (aside (none_between m low high))))
 

@@ -2,13 +2,14 @@
 use Rattle.std.proofs.Common.{◌≡◌, ℕ, ◌+◌, ◌<◌, ◌⊎◌, inl, inr, ℤ, pos, neg_ℤ, ◌+ℤ◌, ◌-ℤ◌, ◌*ℤ◌, ◌≤ℤ◌, ◌<ℤ◌, int_lt, Bool, true, false, ◌&&◌, ◌||◌, refl, sym, ap, ap₂, ◌∙◌, arith}
 use Rattle.std.proofs.lemmas.Int.{ints}
 use Rattle.std.proofs.lemmas.Bool.{and_parts, or_cases}
-use Rattle.plane_geom.proofs.Vectors.{add-mul, mul-comm, neg-mul, le-mul, cancel-le, natural}
+use Rattle.plane_geom.proofs.Vectors.{add-mul, neg-mul, le-mul, cancel-le, natural, mul-neg}
 use Rattle.fku_types.specs.declared.points.Point.{Point}
 use Rattle.mesh_measures.specs.declared.crossing.Corners.{Corners}
 use Rattle.mesh_measures.specs.Turns.{turn}
 use Rattle.mesh_measures.specs.Crossings.{are_opposite, have_one_sign, passes, pierces, cross}
 use Rattle.triangle_meshes.specs.Volumes.{seen_from, determinant}
 use Rattle.mesh_measures.proofs.Weights.{before, after, mean_x, flat_x}
+use Rattle.fku_types.proofs.TruthLaws.{int_lt_is}
 
 -- ---- a weighted mean of two numbers that is one of three numbers beyond them: all are the same
 pub sum_split : (l m n r s : ℕ) (u : ℤ) → r + s ≡ (l + m) + n
@@ -23,13 +24,13 @@ record AllNone (u a b c : ℤ) : Type 0 where
   of_b : b ≡ pos 0
   of_c : c ≡ pos 0
 
-at_least : (n : ℕ) (a : ℤ) → pos 0 ≤ℤ a → pos 0 ≤ℤ (pos n *ℤ a)
+pub at_least : (n : ℕ) (a : ℤ) → pos 0 ≤ℤ a → pos 0 ≤ℤ (pos n *ℤ a)
 at_least n a h = let k : (pos n *ℤ pos 0) ≤ℤ (pos n *ℤ a) = le-mul n (pos 0) a h in omega (arith, ints)
 
-not_less : (n : ℕ) (a : ℤ) → 0 < n → pos 0 ≤ℤ (pos n *ℤ a) → pos 0 ≤ℤ a
+pub not_less : (n : ℕ) (a : ℤ) → 0 < n → pos 0 ≤ℤ (pos n *ℤ a) → pos 0 ≤ℤ a
 not_less n a p h = cancel-le n (pos 0) a p (let k : (pos n *ℤ pos 0) ≤ℤ (pos n *ℤ a) = omega (arith, ints) in k)
 
-not_more : (n : ℕ) (a : ℤ) → 0 < n → (pos n *ℤ a) ≤ℤ pos 0 → a ≤ℤ pos 0
+pub not_more : (n : ℕ) (a : ℤ) → 0 < n → (pos n *ℤ a) ≤ℤ pos 0 → a ≤ℤ pos 0
 not_more n a p h = cancel-le n a (pos 0) p (let k : (pos n *ℤ a) ≤ℤ (pos n *ℤ pos 0) = omega (arith, ints) in k)
 
 sum_not_less : (t x y z : ℤ) → t ≡ (x +ℤ y) +ℤ z → pos 0 ≤ℤ x → pos 0 ≤ℤ y → pos 0 ≤ℤ z → pos 0 ≤ℤ t
@@ -78,17 +79,13 @@ beyond l m n r s u a b c lp mp np rp sp sum mean a0 b0 c0 ua ub uc =
     turned : (x y z : ℤ) → (x +ℤ y) +ℤ z ≡ (z +ℤ x) +ℤ y
     turned x y z = omega (arith, ints)
 
--- ---- signs
-pub less_is : (a b : ℤ) → int_lt a b ≡ true → a <ℤ b
-less_is a b e = grind (arith, ints)
-
 pub apart : (m n : ℤ) → are_opposite m n ≡ true → ((m <ℤ pos 0) × (pos 0 <ℤ n)) ⊎ ((pos 0 <ℤ m) × (n <ℤ pos 0))
 apart m n h =
     elim (or_cases (int_lt m (pos 0) && int_lt (pos 0) n) (int_lt (pos 0) m && int_lt n (pos 0)) h) [
       | inl e ↦ (let w = and_parts (int_lt m (pos 0)) (int_lt (pos 0) n) e in
-          inl (less_is m (pos 0) w.0, less_is (pos 0) n w.1))
+          inl (int_lt_is m (pos 0) w.0, int_lt_is (pos 0) n w.1))
       | inr e ↦ (let w = and_parts (int_lt (pos 0) m) (int_lt n (pos 0)) e in
-          inr (less_is (pos 0) m w.0, less_is n (pos 0) w.1))
+          inr (int_lt_is (pos 0) m w.0, int_lt_is n (pos 0) w.1))
     ]
 
 alike : (l m n : ℤ) → have_one_sign l m n ≡ true → ((pos 0 <ℤ l) × (pos 0 <ℤ m) × (pos 0 <ℤ n))
@@ -99,11 +96,11 @@ alike l m n h =
       | inl e ↦
           (let v = and_parts (int_lt (pos 0) l && int_lt (pos 0) m) (int_lt (pos 0) n) e in
           let w = and_parts (int_lt (pos 0) l) (int_lt (pos 0) m) v.0 in
-          inl (less_is (pos 0) l w.0, less_is (pos 0) m w.1, less_is (pos 0) n v.1))
+          inl (int_lt_is (pos 0) l w.0, int_lt_is (pos 0) m w.1, int_lt_is (pos 0) n v.1))
       | inr e ↦
           (let v = and_parts (int_lt l (pos 0) && int_lt m (pos 0)) (int_lt n (pos 0)) e in
           let w = and_parts (int_lt l (pos 0)) (int_lt m (pos 0)) v.0 in
-          inr (less_is l (pos 0) w.0, less_is m (pos 0) w.1, less_is n (pos 0) v.1))
+          inr (int_lt_is l (pos 0) w.0, int_lt_is m (pos 0) w.1, int_lt_is n (pos 0) v.1))
     ]
 
 record Positive (z : ℤ) : Type 0 where
@@ -218,9 +215,6 @@ weights D l m n Q p =
                 })
           ]
     ]
-
-pub mul-neg : (a b : ℤ) → a *ℤ neg_ℤ b ≡ neg_ℤ (a *ℤ b)
-mul-neg a b = mul-comm a (neg_ℤ b) ∙ neg-mul b a ∙ ap neg_ℤ (mul-comm b a)
 
 -- where an edge meets a triangle, in one coordinate as seen from the begin of the edge
 abbrev Meet : ℤ → ℤ → ℤ → ℤ → ℤ → ℤ → ℤ → ℤ → Type 0

@@ -10,10 +10,7 @@ use Rattle.mesh_measures.specs.declared.triangle_boxes.Boxed.{Boxed}
 use Rattle.mesh_measures.specs.Crossings.{cross, crossing_pairs}
 use Rattle.mesh_measures.specs.TriangleBoxes.{crosses, crosses_at, tally}
 use Rattle.mesh_measures.proofs.Mutual.{mutual_cross, not_itself}
-
-pub count-cons : {X : Type 0} (p : X → Bool) (x : X) (xs : List X)
-    → count_by p (x ∷ xs) ≡ cond (p x) 1 0 + count_by p xs
-count-cons {X = X} p x xs = sum_by-cons (λ (y : X). cond (p y) 1 0) x xs
+use Rattle.fku_types.proofs.ListLaws.{count-cons}
 
 pub either : (b : Bool) → (b ≡ true) ⊎ (b ≡ false)
 either true = inl refl

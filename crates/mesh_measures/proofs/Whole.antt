@@ -1,6 +1,5 @@
 -- The counts of a part after all pairs are counted, in any order.
-use Rattle.std.proofs.Common.{◌≡◌, inl, inr, ℕ, zero, suc, ◌+◌, ◌*◌, ◌<◌, ◌≤◌, ◌==◌, eqb-true, eq-eqb, Bool, cond, List, [], ◌∷◌, length, map, get_or, refl, sym, ap, ap₂, ◌∙◌, arith, count_by, All, Result, Ok, Err}
-use Rattle.std.specs.Prelude.{IfOk}
+use Rattle.std.proofs.Common.{◌≡◌, inl, inr, ℕ, zero, suc, ◌+◌, ◌*◌, ◌<◌, ◌≤◌, ◌==◌, eqb-true, eq-eqb, Bool, cond, List, [], ◌∷◌, length, map, get_or, refl, sym, ap, ap₂, ◌∙◌, arith, count_by, All}
 use Rattle.std.specs.List.{range_with_len}
 use Rattle.std.specs.List.Sorted.{IsPermutation}
 use Rattle.std.proofs.lemmas.Bool.{cases_lt}
@@ -14,7 +13,8 @@ use Rattle.mesh_measures.specs.declared.crossing.Corners.{Corners}
 use Rattle.mesh_measures.specs.declared.triangle_boxes.Boxed.{Boxed}
 use Rattle.mesh_measures.specs.Crossings.{cross, crossing_counts, crossing_pairs}
 use Rattle.mesh_measures.specs.TriangleBoxes.{tally, boxed_corners, places}
-use Rattle.mesh_measures.proofs.Tallies.{count-cons, either, HasCorners, has_place, tally_is, count-moved, pairs_moved}
+use Rattle.mesh_measures.proofs.Tallies.{either, HasCorners, has_place, tally_is, count-moved, pairs_moved}
+use Rattle.fku_types.proofs.ListLaws.{count-cons}
 
 abbrev pub nothing : Corners
 nothing = record { a = origin; b = origin; c = origin }
@@ -154,8 +154,3 @@ pub pairs_are : (part : List Corners) (made sorted : List Boxed) → Made part m
     → crossing_pairs (boxed_corners sorted) ≡ crossing_pairs part
 pairs_are part made sorted m = pairs_moved (boxed_corners made) (boxed_corners sorted)
     (IsPermutation-map (λ (b : Boxed). b.corners) made sorted m.moved) ∙ ap crossing_pairs m.corners
-
-pub both_ok : {T E : Type 0} (r : Result T E) (P Q R : T → Type 0) → IfOk r P → IfOk r Q → ((x : T) → P x → Q x → R x)
-    → IfOk r R
-both_ok (Ok x) P Q R p q f = f x p q
-both_ok (Err e) P Q R p q f = tt

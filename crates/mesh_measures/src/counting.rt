@@ -1,5 +1,5 @@
 //! Crossings of one triangle with later ones.
-ghost use Rattle.std.specs.Prelude.{◌≡◌, ℕ, ◌+◌, ◌<◌, ◌≤◌, ◌^◌, ◌∷◌, [], length, All, count_by, slice_index, slice_index_or, ◌≤ℤ◌, ◌<ℤ◌};
+ghost use Rattle.std.specs.Prelude.{◌≡◌, ℕ, ◌+◌, ◌<◌, ◌≤◌, ◌^◌, ◌∷◌, [], length, All, count_by, slice_index, slice_index_or, ◌≤ℤ◌};
 ghost use Rattle.mesh_measures.specs.TriangleBoxes.{IsBoxed, ComesAfter, IsSwept, crosses, crosses_at, LiesPast, RisesBy, x_of, z_of};
 
 use crate::triangle_boxes::{Boxed, crosses};

@@ -1,5 +1,5 @@
 -- Lines that say marks, in order.
-use Rattle.std.proofs.Common.{◌≡◌, ℕ, ◌+◌, ◌-◌, ◌<◌, ◌≤◌, ◌^◌, ℤ, pos, List, [], ◌∷◌, ◌++◌, length, drop, Bool, true, false, cond, refl, sym, subst, ap, ◌∙◌, append_assoc, append-nil, arith, length-take}
+use Rattle.std.proofs.Common.{◌≡◌, ℕ, ◌+◌, ◌-◌, ◌≤◌, ℤ, pos, List, [], ◌∷◌, ◌++◌, length, drop, Bool, true, false, cond, refl, sym, subst, ap, ◌∙◌, append_assoc, append-nil, arith, length-take}
 use Rattle.std.specs.Prelude.{All, slice_range}
 use Rattle.std.specs.List.{AllZip, AllByRecursion}
 use Rattle.std.proofs.lemmas.List.Elements.{All-from_recursion}

@@ -1,5 +1,5 @@
 //! The command `tilings`.
-ghost use Rattle.std.specs.Prelude.{◌≡◌, ◌+◌, ◌≤◌, ◌<◌, ◌++◌, [], map, drop, length, string_bytes, IfOk, OnOk, IfErr};
+ghost use Rattle.std.specs.Prelude.{◌≡◌, ◌+◌, ◌≤◌, ◌++◌, [], map, drop, length, string_bytes, IfOk, OnOk, IfErr};
 ghost use Rattle.section_core.specs.Views.{contour_parts, section_parts};
 ghost use Rattle.surface_core.specs.Objects.{numbered, pair_lists};
 ghost use Rattle.section_pairs.specs.Pairs.{pair_parts};

@@ -1,5 +1,5 @@
 //! The values of a batch, made by workers side by side.
-ghost use Rattle.std.specs.Prelude.{◌<◌, All, IfOk};
+ghost use Rattle.std.specs.Prelude.{All, IfOk};
 ghost use Rattle.pair_pool.specs.Batches.{IsMadeAt, AreMade};
 
 use crate::batch::Batch;

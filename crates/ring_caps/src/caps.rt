@@ -35,19 +35,19 @@ impl CapRule for ByGroup {
 }
 
 // The cap of some rings of a section, which is counted from 0; or the fault that they are too long.
-fn capped(alloc: Global, rings: &[Ring], section: u32) -> Result<CapList, Fault>
-    requires some { 0 < length rings.now }
-    requires contours { All IsContour rings.now }
-    requires few { sum_by (λ r. length r.points.items) rings.now ≤ MAX_SECTION_VERTICES }
+fn capped(alloc: Global, rings: Vec<Ring>, section: u32) -> Result<CapList, Fault>
+    requires some { 0 < length rings.items }
+    requires contours { All IsContour rings.items }
+    requires few { sum_by (λ r. length r.points.items) rings.items ≤ MAX_SECTION_VERTICES }
     requires section { section < MAX_SECTIONS }
-    ensures triangles { IfOk result (λ l. l.triangles.items ≡ group_cap (ring_views rings.now)) }
-    ensures folded { IfOk result (λ l. l.folded ≡ group_folded (ring_views rings.now)) }
+    ensures triangles { IfOk result (λ l. l.triangles.items ≡ group_cap (ring_views rings.items)) }
+    ensures folded { IfOk result (λ l. l.folded ≡ group_folded (ring_views rings.items)) }
     ensures small { IfOk result (λ l. l.folded ≤ MAX_COMPOSITE_VERTICES) }
-    ensures short { IfOk result (λ _. length (composite (ring_views rings.now)).points ≤ MAX_COMPOSITE_VERTICES) }
+    ensures short { IfOk result (λ _. length (composite (ring_views rings.items)).points ≤ MAX_COMPOSITE_VERTICES) }
     ensures fault { IfErr result
-        (OrNoMemory (HasLongGroup (section + 1, length (composite (ring_views rings.now)).points))) }
+        (OrNoMemory (HasLongGroup (section + 1, length (composite (ring_views rings.items)).points))) }
     ensures memory { IfErr result (λ f.
-        f ≡ variants.NoMemory → length (composite (ring_views rings.now)).points ≤ MAX_COMPOSITE_VERTICES) }
+        f ≡ variants.NoMemory → length (composite (ring_views rings.items)).points ≤ MAX_COMPOSITE_VERTICES) }
 {
     match cap_group(alloc, rings) {
         Ok(list) => Ok(list),
@@ -71,7 +71,7 @@ fn group_cap(alloc: Global, rings: &[Ring], places: &[u32], section: u32) -> Res
     ensures fault { IfErr result (OrNoMemory (HasLongGroup (group_size section (ring_views rings.now) places.now))) }
 {
     let group = picked(alloc, rings, places)?;
-    capped(alloc, &group, section)
+    capped(alloc, group, section)
 }
 
 // The caps of some groups of rings of a section; or the fault of the first group that is too long.

@@ -1,6 +1,5 @@
 -- The loop that cuts ears off.
 use Rattle.std.proofs.Common.{◌≡◌, ℕ, zero, suc, ◌+◌, ◌-◌, ◌<◌, Bool, cond, List, [], ◌∷◌, ◌++◌, length, remove, count_by, ℤ, pos, int_le, sym, ap, ap₂, ◌∙◌, arith, append_assoc}
-use Rattle.std.proofs.lemmas.List.Sums.{sum_by-cons}
 use Rattle.std.proofs.lemmas.List.Edits.{length-remove}
 use Rattle.fku_types.specs.declared.points.Point.{Point}
 use Rattle.plane_geom.specs.Rings.{origin}
@@ -8,6 +7,7 @@ use Rattle.plane_geom.specs.Planes.{turns}
 use Rattle.ring_polygons.specs.declared.twins.Twins.{Twins}
 use Rattle.ring_polygons.specs.Caps.{corner, cut, sign, ear_place, ear_places, places_by, cap_by, is_folded, folded_by}
 use Rattle.ring_polygons.proofs.CapLaws.{ear_place_below}
+use Rattle.fku_types.proofs.ListLaws.{count-cons}
 
 pub cap_start : (w : Twins) (left : Bool) (points : List Point) → left ≡ int_le (pos 0) (turns points)
     → ear_places w (sign left) (length points - 3) points ≡ places_by w points
@@ -35,10 +35,6 @@ cut_last {X = X} w d s points (a ∷ b ∷ c ∷ []) h k =
     let none : length points - 3 ≡ zero = omega arith in
     ap (λ (n : ℕ). cut d (ear_places w s n points) (a ∷ b ∷ c ∷ [])) none
 cut_last w d s points (a ∷ b ∷ c ∷ e ∷ xs) h k = absurd (omega (arith, k))
-
-count_cons : {X : Type 0} (test : X → Bool) (x : X) (xs : List X)
-    → count_by test (x ∷ xs) ≡ cond (test x) 1 0 + count_by test xs
-count_cons test x xs = sum_by-cons (λ y. cond (test y) 1 0) x xs
 
 -- what is cut off, and what is still to be cut off
 abbrev pub to_cut : Twins → Bool → List Point → List ℕ → List (List ℕ)
@@ -89,7 +85,7 @@ fold_goes_on w left points points' t n h e k p =
     let rest : to_fold w left points' ≡ to_fold w left (remove points u) =
     ap (to_fold w left) (p ∙ ap (remove points) e) in
     let step = ap (count_by (is_folded s)) (cut_one w origin s points points h) in
-    let first = count_cons (is_folded s) (corner origin points u)
+    let first = count-cons (is_folded s) (corner origin points u)
     (cut origin (ear_places w s (length (remove points u) - 3) (remove points u)) (remove points u)) in
     omega (arith, one, rest, step, first)
 
@@ -104,4 +100,4 @@ pub fold_ends : (w : Twins) (left : Bool) (points : List Point) (n : ℕ) → le
 fold_ends w left points n h k =
     let s : ℤ = sign left in
     let last = ap (count_by (is_folded s)) (cut_last w origin s points points h h) in
-    omega (arith, k, last, count_cons (is_folded s) (corner origin points 1) [])
+    omega (arith, k, last, count-cons (is_folded s) (corner origin points 1) [])

@@ -1,7 +1,7 @@
 -- The loop that joins rings.
-use Rattle.std.proofs.Common.{◌≡◌, ℕ, zero, suc, ◌+◌, ◌*◌, ◌<◌, ◌≤◌, List, [], ◌∷◌, ◌++◌, length, take, drop, remove, sum_by, All, refl, sym, ap, ap₂, ◌∙◌, arith, subst, ◌-◌, get_or}
+use Rattle.std.proofs.Common.{◌≡◌, ℕ, zero, suc, ◌+◌, ◌*◌, ◌<◌, ◌≤◌, List, [], ◌∷◌, ◌++◌, length, take, drop, remove, sum_by, All, refl, sym, ap, ap₂, ◌∙◌, arith, get_or}
 use Rattle.std.specs.List.{AllByRecursion}
-use Rattle.std.proofs.lemmas.List.{length-map, take_all}
+use Rattle.std.proofs.lemmas.List.{length-map}
 use Rattle.std.proofs.lemmas.List.Elements.{recursion_from_All, All-nil, All-append, All-take, All-drop}
 use Rattle.std.proofs.lemmas.List.Sums.{sum_by-cons}
 use Rattle.fku_types.specs.declared.points.Point.{Point}
@@ -123,26 +123,13 @@ composite_each P (r ∷ rings) h =
     let each = recursion_from_All (λ (s : Ring). All P s.ids.items) (r ∷ rings) h in
     others_each P (length (ring_views rings)) (ring_view r) (ring_views rings) each.0 (ids_each P rings each.1)
 
--- a copy of a contour is one
-pub contour_like : (a b : Ring) → ring_view a ≡ ring_view b → IsContour b → IsContour a
-contour_like a b e k =
-    let points : a.points.items ≡ b.points.items = ap (λ (v : RingView). v.points) e in
-    record {
-      enough = omega (arith, ap length points, k.enough);
-      few = omega (arith, ap length points, k.few);
-      in_range = subst (All IsInRange) (sym points) k.in_range;
-    }
-
 -- the first ring joined with all others
-pub joins_all : (rings : List Ring) (first ring : Ring) (others : List Ring) → 0 < length rings
-    → first ≡ get_or rings 0 first → ring_view ring ≡ ring_view first
-    → ring_views others ≡ ring_views (take (length rings - 1) (drop 1 rings))
+pub joins_all : (rings : List Ring) (ring : Ring) (others : List Ring) → 0 < length rings → ring ≡ get_or rings 0 ring
+    → others ≡ remove rings 0
     → join_others (length others) (ring_view ring) (ring_views others) ≡ composite (ring_views rings)
-joins_all [] first ring others l e f g = absurd (omega (arith, l))
-joins_all (r ∷ rings) first ring others l e f g =
-    let rest : ring_views others ≡ ring_views rings = g
-    ∙ ap ring_views (take_all (length (r ∷ rings) - 1) rings (omega arith)) in
-    let size : length others ≡ length (ring_views rings) = omega (arith, ap length rest, length-map others ring_view) in
+joins_all [] ring others l e f = absurd (omega (arith, l))
+joins_all (r ∷ rings) ring others l e f =
+    let size : length others ≡ length (ring_views rings) = omega (arith, ap length f, length-map rings ring_view) in
     ap (λ (n : ℕ). join_others n (ring_view ring) (ring_views others)) size
-    ∙ ap₂ (λ (a : RingView) (vs : List RingView). join_others (length (ring_views rings)) a vs) (f ∙ ap ring_view e)
-    rest
+    ∙ ap₂ (λ (a : RingView) (vs : List RingView). join_others (length (ring_views rings)) a vs) (ap ring_view e)
+    (ap ring_views f)

@@ -1,52 +1,32 @@
 //! Rings joined by a bridge.
 
-ghost use Rattle.std.specs.Prelude.{◌≡◌, ◌+◌, ◌<◌, length, All, IfOk};
-ghost use Rattle.plane_geom.specs.RingViews.{ring_view, ring_views, IsContour};
+ghost use Rattle.std.specs.Prelude.{◌≡◌, ◌+◌, ◌<◌, length, IfOk};
+ghost use Rattle.plane_geom.specs.RingViews.{ring_view};
 ghost use Rattle.ring_polygons.specs.Composites.{join, bridged};
 
-use fku_types::{NoMemory, Point};
+use fku_types::NoMemory;
 use plane_geom::Ring;
 use std::alloc::Global;
 
 /// A list up to a place, then once round another list from one of its places and back to it, then on from the first
 /// place.
-fn join_points(
+fn join<T: Copy + Drop>(
     alloc: Global,
-    ring: &[Point],
-    other: &[Point],
+    ring: &[T],
+    other: &[T],
     place: usize,
     vertex: usize,
-) -> Result<Vec<Point>, NoMemory>
+) -> Result<Vec<T>, NoMemory>
     requires place { place < length ring.now }
     requires vertex { vertex < length other.now }
     ensures { IfOk result (λ l. l.items ≡ join ring.now other.now place vertex) }
 {
-    let mut points = Vec::new(alloc);
-    points.extend_from_slice(&ring[..place + 1])?;
-    points.extend_from_slice(&other[vertex..])?;
-    points.extend_from_slice(&other[..vertex + 1])?;
-    points.extend_from_slice(&ring[place..])?;
-    Ok(points)
-}
-
-/// The same for lists of ids.
-fn join_ids(
-    alloc: Global,
-    ring: &[u32],
-    other: &[u32],
-    place: usize,
-    vertex: usize,
-) -> Result<Vec<u32>, NoMemory>
-    requires place { place < length ring.now }
-    requires vertex { vertex < length other.now }
-    ensures { IfOk result (λ l. l.items ≡ join ring.now other.now place vertex) }
-{
-    let mut ids = Vec::new(alloc);
-    ids.extend_from_slice(&ring[..place + 1])?;
-    ids.extend_from_slice(&other[vertex..])?;
-    ids.extend_from_slice(&other[..vertex + 1])?;
-    ids.extend_from_slice(&ring[place..])?;
-    Ok(ids)
+    let mut list = Vec::new(alloc);
+    list.extend_from_slice(&ring[..place + 1])?;
+    list.extend_from_slice(&other[vertex..])?;
+    list.extend_from_slice(&other[..vertex + 1])?;
+    list.extend_from_slice(&ring[place..])?;
+    Ok(list)
 }
 
 /// Two rings joined by a bridge; or `NoMemory`.
@@ -61,21 +41,7 @@ pub fn joined(
     requires vertex { vertex < length other.now.points.items }
     ensures { IfOk result (λ r. ring_view r ≡ bridged (ring_view ring.now) (ring_view other.now) place vertex) }
 {
-    let points = join_points(alloc, &ring.points, &other.points, place, vertex)?;
-    let ids = join_ids(alloc, &ring.ids, &other.ids, place, vertex)?;
+    let points = join(alloc, &ring.points, &other.points, place, vertex)?;
+    let ids = join(alloc, &ring.ids, &other.ids, place, vertex)?;
     Ok(Ring { points, ids })
-}
-
-/// Equal rings; or `NoMemory`.
-pub fn copies(alloc: Global, rings: &[Ring]) -> Result<Vec<Ring>, NoMemory>
-    requires { All IsContour rings.now }
-    ensures views { IfOk result (λ v. ring_views v.items ≡ ring_views rings.now) }
-    ensures contours { IfOk result (λ v. All IsContour v.items) }
-{
-    let mut copies = Vec::new(alloc);
-    for ring in rings {
-        let copy = ring.copy(alloc)?;
-        copies.push(copy)?;
-    }
-    Ok(copies)
 }

@@ -1,5 +1,5 @@
 //! The strip of a pair by the coordinates of its rings.
-ghost use Rattle.std.specs.Prelude.{◌≡◌, ◌≤◌};
+ghost use Rattle.std.specs.Prelude.{◌≡◌};
 ghost use Rattle.round_sweeps.specs.Planes.{AreSpans};
 
 use crate::planes::SpanColumn;

@@ -1,5 +1,5 @@
 //! A search back from the end of a turn, column by column, over the places that a potential leaves.
-ghost use Rattle.std.specs.Prelude.{◌≡◌, ◌⊎◌, ℕ, ◌+◌, ◌-◌, ◌*◌, ◌%◌, ◌<◌, ◌≤◌, ◌^◌, ℤ, pos, neg_ℤ, ◌+ℤ◌, ◌-ℤ◌, ◌≤ℤ◌, ◌<ℤ◌, length};
+ghost use Rattle.std.specs.Prelude.{◌≡◌, ◌⊎◌, ℕ, ◌+◌, ◌-◌, ◌*◌, ◌%◌, ◌<◌, ◌≤◌, ℤ, pos, neg_ℤ, ◌+ℤ◌, ◌≤ℤ◌, length};
 ghost use Rattle.strip_graph.specs.Feasible.{lifted_row};
 ghost use Rattle.round_sweeps.specs.Columns.{cost_limit, start_limit, value_limit, at_row, AreRowsBounded};
 ghost use Rattle.round_sweeps.specs.Searches.{gone, numbers_from, downs_from, rights_from, AreSumsOf, IsWindow, IsSearchInRange, IsStepChosen, IsPlaceSearched, IsBackColumn};

@@ -1,5 +1,5 @@
 //! The chosen tiling of a pair under squared spans.
-ghost use Rattle.std.specs.Prelude.{◌≡◌, ◌+◌, ◌-◌, ◌*◌, ◌<◌, ◌≤◌, ◌^◌, ◌-ℤ◌, ◌≤ℤ◌, IfOk, IfSome, IsTrue, pos, length};
+ghost use Rattle.std.specs.Prelude.{◌≡◌, ◌+◌, ◌<◌, ◌-ℤ◌, ◌≤ℤ◌, IfOk, IfSome, IsTrue, pos, length};
 ghost use Rattle.plane_geom.specs.Rings.{IsRing, around};
 ghost use Rattle.fku_types.specs.declared.rules.CostRule.TheVariants.{Span};
 ghost use Rattle.fku_types.specs.Points.{square};

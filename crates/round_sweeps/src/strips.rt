@@ -1,5 +1,5 @@
 //! The columns of strips.
-ghost use Rattle.std.specs.Prelude.{◌≡◌, ◌+◌, ◌<◌, ◌≤◌, ◌≤ℤ◌, pos, length};
+ghost use Rattle.std.specs.Prelude.{◌≡◌, ◌<◌, ◌≤ℤ◌, pos, length};
 ghost use Rattle.round_sweeps.specs.Planes.{AreCoordinates, rise_limit};
 
 use crate::columns::ColumnCosts;

@@ -1,5 +1,5 @@
 //! The points of a ring, each with its edge.
-ghost use Rattle.std.specs.Prelude.{◌≡◌, ◌+◌, ◌≤◌, IfOk, cond, length};
+ghost use Rattle.std.specs.Prelude.{◌≡◌, IfOk, cond, length};
 ghost use Rattle.fku_types.specs.Points.{IsCoordinate, IsInRange};
 ghost use Rattle.plane_geom.specs.Rings.{IsRing};
 ghost use Rattle.strip_graph.specs.Edges.{IsLevel};

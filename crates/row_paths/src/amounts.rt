@@ -1,5 +1,5 @@
 //! The number types of the tables of step costs, and those in which costs are summed.
-ghost use Rattle.std.specs.Prelude.{◌≡◌, Bool, true, false, ℕ, ◌+◌, ◌-◌, ◌<◌, ◌≤◌, ◌^◌, min, nat_le};
+ghost use Rattle.std.specs.Prelude.{◌≡◌, Bool, true, false, ℕ, ◌+◌, ◌-◌, ◌≤◌, ◌^◌, min, nat_le};
 
 /// A sum of costs: 64 bits if no sum is large, 128 bits for any sum.
 pub(crate) trait Amount: Copy + Drop {

@@ -1,9 +1,9 @@
 -- `count` reports a closed mesh for what `reconstruct` and `ringcaps` write.
-use Rattle.std.proofs.Common.{◌≡◌, ℕ, ◌≤◌, true, List, length, refl, ap, arith, All}
+use Rattle.std.proofs.Common.{◌≡◌, ℕ, true, List, length, refl, ap, arith, All}
 use Rattle.std.specs.List.{AllByRecursion}
 use Rattle.std.proofs.lemmas.List.Elements.{All-from_recursion}
 use Rattle.plane_geom.specs.Rings.{IsClosed}
-use Rattle.fku_types.specs.declared.limits.TheConstants.{MAX_INPUT_BYTES, MAX_MESH_BYTES}
+use Rattle.fku_types.specs.declared.limits.TheConstants.{MAX_INPUT_BYTES}
 use Rattle.section_core.specs.Parts.{FileParts}
 use Rattle.section_core.specs.Texts.{IsTextOfFile}
 use Rattle.section_core.proofs.OneObject.{objects_accepted}
@@ -11,8 +11,8 @@ use Rattle.ring_polygons.proofs.CutLaws.{HasThree}
 use Rattle.triangle_meshes.specs.Meshes.{Surface, IsValid, surface_of}
 use Rattle.byu_text.specs.Byu.{byu_of}
 use Rattle.byu_text.specs.Reading.{IsMesh}
-use Rattle.byu_text.proofs.PolygonsStuck.{whole_width}
-use Rattle.byu_text.proofs.Written.{head_of, pieces_of, polygons_of, sizes_of, written}
+use Rattle.byu_text.proofs.PolygonsStuck.{mesh_width}
+use Rattle.byu_text.proofs.Written.{written}
 use Rattle.surface_core.specs.Objects.{IsFoundIn}
 use Rattle.surface_core.specs.Surfaces.{IsBuilt}
 use Rattle.surface_core.specs.declared.surfaces.Built.{Built}
@@ -31,19 +31,6 @@ use Rattle.run_laws.specs.Laws.{IsSurfaceText}
 use Rattle.run_laws.proofs.DoneLaws.{by_words, of_objects, of_words, same_text}
 use Rattle.run_laws.proofs.ThreeLaws.{AreThree, all_three, plain_built, ring_built}
 
--- the text of a mesh is short enough to be counted
-short : (m : Surface) → IsMesh m → length (byu_of m) ≤ MAX_MESH_BYTES
-short m is =
-    let v = is.valid in
-    omega (
-      arith,
-      ap length (written m),
-      whole_width (head_of m) (sizes_of m) m.vertices (polygons_of m) (pieces_of m is),
-      v.few_parts,
-      v.few_vertices,
-      v.few_triangles,
-    )
-
 is_mesh : (m : Surface) → IsValid m → AreThree m → IsMesh m
 is_mesh m v h = record {
   valid = v;
@@ -57,7 +44,7 @@ is_counted m text is closed same =
     let reply : Reply = told (count_text m true) 0 in
     let counts : count text reply = goes_on m reply (record { mesh = is; same = same })
     (record { closed = true; says = (λ e. closed, λ c. refl); tells = refl }) in
-    (reply, goes_on text reply (omega (arith, short m is, ap length same), refl) counts, (refl, refl, refl))
+    (reply, goes_on text reply (omega (arith, mesh_width m is, ap length same), refl) counts, (refl, refl, refl))
 
 -- the counts of such a text
 abbrev Counted : (FileParts → Built → Type 0) → List ℕ → List ℕ → Type 0

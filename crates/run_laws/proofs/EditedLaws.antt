@@ -1,5 +1,5 @@
 -- What `edit` writes ends with what `reconstruct` writes for the edited sections.
-use Rattle.std.proofs.Common.{◌≡◌, ℕ, ◌+◌, ◌<◌, ◌≤◌, ℤ, true, false, List, [], ◌∷◌, length, map, Option, None, Some, Ok, Err, refl, sym, subst, ap₂, ◌∙◌, arith, append-nil, set}
+use Rattle.std.proofs.Common.{◌≡◌, ℕ, ◌+◌, ◌<◌, ◌≤◌, ℤ, true, false, List, [], ◌∷◌, length, map, Option, None, Some, Ok, Err, refl, sym, subst, arith, set}
 use Rattle.std.specs.Prelude.{nat_le, nat_lt, not, sum_by}
 use Rattle.std.specs.List.{AllByRecursion, AllZip, find, insert, list_any, remove}
 use Rattle.std.specs.Option.{is_some}
@@ -11,7 +11,6 @@ use Rattle.std.proofs.lemmas.List.Edits.{length-insert, length-remove}
 use Rattle.fku_types.specs.declared.limits.TheConstants.{MAX_INPUT_BYTES}
 use Rattle.text_io.specs.Text.{kept_lines}
 use Rattle.text_io.specs.WordLists.{Kept, Line}
-use Rattle.fku_types.specs.declared.points.Point.{Point}
 use Rattle.fku_types.proofs.ListLaws.{all_map}
 use Rattle.section_core.specs.declared.parts.Version.TheVariants.{Two}
 use Rattle.section_core.specs.Accepted.{IsAccepted}
@@ -38,8 +37,7 @@ use Rattle.section_edits.proofs.Lawful.{accepted, passes, ready}
 use Rattle.section_edits.proofs.Named.{its_spots, whole_named}
 use Rattle.section_edits.proofs.ReshapedContours.{ready_reshaped}
 use Rattle.section_edits.specs.Edits.{IsEdited}
-use Rattle.triangle_meshes.specs.Meshes.{Surface, surface_of}
-use Rattle.triangle_meshes.specs.Joined.{joined, raised, raised_part, raised_triangle}
+use Rattle.triangle_meshes.specs.Meshes.{surface_of}
 use Rattle.byu_text.specs.Byu.{byu_of}
 use Rattle.section_pairs.specs.SectionFaults.{ArePairs, IsFound}
 use Rattle.surface_core.specs.Objects.{IsJoined, alone, objects_in}
@@ -55,6 +53,7 @@ use Rattle.surface_cli.specs.Headline.{AsksFor}
 use Rattle.run_laws.specs.Laws.{AreEditsOf}
 use Rattle.run_laws.proofs.DoneLaws.{by_words, of_input, of_words, same_text}
 use Rattle.run_laws.proofs.ThreeLaws.{enough}
+use Rattle.triangle_meshes.proofs.JoinedMeshes.{one_joined}
 
 -- ---- an edit of accepted sections leaves accepted ones
 -- the points of a contour that exists
@@ -163,24 +162,6 @@ only_accepted bytes F tail S front only =
     let each : AllByRecursion IsAccepted (objects_in F) =
     all_map IsAccepted (alone F) F.objects (objects_accepted F front.0.is_file front.0.lawful front.1) in
     (subst (AllByRecursion IsAccepted) only each).0
-
--- ---- one object as its own text
-same_triangle : (t : List ℕ) → raised_triangle 0 t ≡ t
-same_triangle [] = refl
-same_triangle (id ∷ t) = ap₂ (λ (n : ℕ) ns. n ∷ ns) (omega arith) (same_triangle t)
-
-same_part : (part : List (List ℕ)) → raised_part 0 part ≡ part
-same_part [] = refl
-same_part (t ∷ part) = ap₂ (λ (x : List ℕ) xs. x ∷ xs) (same_triangle t) (same_part part)
-
-same_parts : (parts : List (List (List ℕ))) → raised 0 parts ≡ parts
-same_parts [] = refl
-same_parts (part ∷ parts) = ap₂ (λ (x : List (List ℕ)) xs. x ∷ xs) (same_part part) (same_parts parts)
-
-one_joined : (s : Surface) → joined (s ∷ []) ≡ s
-one_joined s =
-    ap₂ (λ (vs : List Point) ps. record { vertices = vs; parts = ps }) (append-nil s.vertices)
-    (append-nil (raised 0 s.parts) ∙ same_parts s.parts)
 
 joined_alone : (b : Built) → IsJoined (b ∷ []) b
 joined_alone b = record {

@@ -4,8 +4,6 @@
 #[cfg(test)]
 mod comparisons;
 #[cfg(test)]
-mod contour_comparisons;
-#[cfg(test)]
 mod contour_tests;
 #[cfg(test)]
 mod correspondence_tests;

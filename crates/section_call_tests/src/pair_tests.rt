@@ -1,8 +1,8 @@
 //! The pairs of sections, and their faults.
 ghost use Rattle.std.specs.Prelude.{◌≤◌, length};
 
-use crate::comparisons::{same, tell};
-use crate::texts::{BRANCHING, RINGS, SELF_CROSSING, sections_of};
+use crate::comparisons::same;
+use crate::texts::{BRANCHING, RINGS, sections_of};
 use section_pairs::{GapPair, pairs, pairs_after};
 use std::process::Abort;
 use std::test::Fail;
@@ -46,13 +46,6 @@ fn pairs_of_worked_texts(rt: HostRuntime) -> Result<(), Fail> {
     let outer: Rings = (0, &[0, 1, 2, 3], &[8, 9, 10, 11]);
     let hole: Rings = (0, &[4, 7, 6, 5], &[12, 15, 14, 13]);
     expect(&rt, RINGS, &[outer, hole])
-}
-
-#[test]
-fn sections_that_cross_have_no_pairs(rt: HostRuntime) -> Result<(), Fail> {
-    let sections = sections_of(rt.alloc(), SELF_CROSSING)?;
-    let fault = pairs(rt.alloc(), &sections).err();
-    tell(&rt, fault, b"8 SELF CROSSING a 0 2")
 }
 
 #[test]

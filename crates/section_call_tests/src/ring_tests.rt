@@ -58,8 +58,11 @@ fn no_pair_is_solved_before_a_fault(rt: HostRuntime) -> Result<(), Fail> {
 #[test]
 fn the_cap_of_a_group(rt: HostRuntime) -> Result<(), Fail> {
     let sections = sections_of(rt.alloc(), RING)?;
-    let rings = all_rings(rt.alloc(), &sections).ok().ok_or("rings")?;
-    let rings = rings.first().ok_or("there is no section")?;
+    let mut all = all_rings(rt.alloc(), &sections).ok().ok_or("rings")?;
+    if all.len() == 0 {
+        return Err(Fail::from("there is no section"));
+    }
+    let rings = all.remove(0);
     if rings.len() == 0 {
         return Err(Fail::from("there is no ring"));
     }

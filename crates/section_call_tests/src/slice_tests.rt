@@ -85,12 +85,3 @@ fn a_slice_of_known_pairs(rt: HostRuntime) -> Result<(), Fail> {
     same(&rt, solver.solved_count(), 1);
     Ok(())
 }
-
-#[test]
-fn known_pairs_have_no_slice_outside(rt: HostRuntime) -> Result<(), Fail> {
-    let (sections, found) = paired(rt.alloc(), THREE_SQUARES)?;
-    let words = b"17 HEIGHT OUTSIDE 21";
-    tell(&rt, test_height(&sections, 21).err(), words)?;
-    let made = slice_pairs(rt.alloc(), &sections, &found, &mut OneByOne::new(), 21);
-    tell(&rt, made.err(), words)
-}

@@ -1,6 +1,6 @@
 -- What the tests of one more item show: ranges, rising heights, distinct names, and few vertices.
-use Rattle.std.proofs.Common.{◌≡◌, ℕ, suc, ◌+◌, ◌≤◌, Bool, true, false, ◌||◌, inl, inr, List, [], ◌∷◌, ◌++◌, ℤ, pos, negsuc, ◌≤ℤ◌, ◌<ℤ◌, refl, ap, sym, ◌∙◌, arith}
-use Rattle.std.specs.Prelude.{int_le, int_lt}
+use Rattle.std.proofs.Common.{◌≡◌, ℕ, suc, ◌+◌, ◌≤◌, Bool, true, false, ◌||◌, inl, inr, List, [], ◌∷◌, ◌++◌, ℤ, pos, negsuc, ◌≤ℤ◌, refl, ap, sym, ◌∙◌, arith}
+use Rattle.std.specs.Prelude.{int_le}
 use Rattle.std.specs.List.{AllByRecursion, list_any}
 use Rattle.std.proofs.lemmas.Int.{ints}
 use Rattle.std.proofs.lemmas.Bool.{cases_Bool, and_parts, and_from, or_parts, false≢true}
@@ -12,16 +12,10 @@ use Rattle.section_core.specs.Machine.{same}
 use Rattle.section_core.specs.Steps.{add_last, last, push_last, last_list, is_coordinate, is_above}
 use Rattle.fku_types.proofs.ListLaws.{all_rest, all_join}
 use Rattle.section_core.proofs.Lines.{same-refl, same-is}
-use Rattle.fku_types.proofs.TruthLaws.{int_le_is}
+use Rattle.fku_types.proofs.TruthLaws.{int_le_is, int_lt_is, int_lt_test}
 
 pub le_test : (a b : ℤ) → a ≤ℤ b → int_le a b ≡ true
 le_test a b h = grind (arith, ints)
-
-lt_is : (a b : ℤ) → int_lt a b ≡ true → a <ℤ b
-lt_is a b e = grind (arith, ints)
-
-lt_test : (a b : ℤ) → a <ℤ b → int_lt a b ≡ true
-lt_test a b h = grind (arith, ints)
 
 -- the range of a coordinate, by its bounds
 pub bounded : (z : ℤ) → negsuc 999998 ≤ℤ z → z ≤ℤ pos 999999 → IsCoordinate z
@@ -47,12 +41,12 @@ coordinate_test z h = and_from (int_le (negsuc 999998) z) (int_le z (pos 999999)
 
 above_rises : (hs : List ℤ) (z : ℤ) → is_above hs z ≡ true → AreRising hs → AreRising (hs ++ z ∷ [])
 above_rises [] z e h = tt
-above_rises (y ∷ []) z e h = (lt_is y z e, tt)
+above_rises (y ∷ []) z e h = (int_lt_is y z e, tt)
 above_rises (y ∷ x ∷ hs) z e h = (h.0, above_rises (x ∷ hs) z e h.1)
 
 rises_above : (hs : List ℤ) (z : ℤ) → AreRising (hs ++ z ∷ []) → is_above hs z ≡ true
 rises_above [] z h = refl
-rises_above (y ∷ []) z h = lt_test y z h.0
+rises_above (y ∷ []) z h = int_lt_test y z h.0
 rises_above (y ∷ x ∷ hs) z h = rises_above (x ∷ hs) z h.1
 
 pub distinct_push : (names : List (List ℕ)) (name : List ℕ) → list_any (same name) names ≡ false → AreDistinct names

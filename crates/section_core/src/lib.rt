@@ -15,7 +15,7 @@ pub use objects::{Object, Objects, finished_objects};
 pub use parts::{Contour, Draft, Head, Link, Section, Version};
 pub use printing::{print, print_objects};
 pub use sections::Sections;
-pub use tally::{Tally, coordinate, is_coordinate, mix, point_count};
+pub use tally::{Tally, coordinate, fits_section, is_coordinate, mix, point_count};
 
 /// A law: a reader that takes one line after another returns what the definition says of all the lines.
 pub fn reader_is_right()

@@ -1,5 +1,5 @@
 //! Parts that a caller passes in.
-ghost use Rattle.std.specs.Prelude.{◌≡◌, ◌<◌, ℤ, pos, map, length, [], ◌∷◌, true, OnOk, IfErr};
+ghost use Rattle.std.specs.Prelude.{◌≡◌, ℤ, pos, map, length, [], ◌∷◌, true, OnOk, IfErr};
 ghost use Rattle.std.specs.List.{flat_map, list_all, AllByRecursion};
 ghost use Rattle.fku_types.specs.Names.{is_name};
 ghost use Rattle.section_core.specs.Costs.{cost_parts};

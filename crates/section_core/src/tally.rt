@@ -1,5 +1,5 @@
 //! The limits and names of the parts read so far.
-ghost use Rattle.std.specs.Prelude.{◌≡◌, ◌≤◌, ℤ, pos, int_le, ◌&&◌, true, false, MatchOption, IfSome};
+ghost use Rattle.std.specs.Prelude.{◌≡◌, ◌≤◌, nat_le, ℤ, pos, int_le, ◌&&◌, true, false, MatchOption, IfSome};
 ghost use Rattle.section_core.specs.Costs.{cost_parts};
 ghost use Rattle.section_core.specs.Machine.{section, contour, link};
 ghost use Rattle.section_core.specs.Steps.{is_coordinate, is_weight, are_weights};
@@ -35,6 +35,13 @@ pub fn is_coordinate(value: i32) -> bool
     ensures { result ≡ is_coordinate value }
 {
     -(MAX_COORDINATE as i32) <= value && value <= MAX_COORDINATE as i32
+}
+
+/// Whether a section may have so many vertices. Takes no memory.
+pub fn fits_section(vertices: usize) -> bool
+    ensures { result ≡ nat_le vertices MAX_SECTION_VERTICES }
+{
+    vertices <= MAX_SECTION_VERTICES as usize
 }
 
 /// The count of a contour's points, if it is within its limits.
@@ -96,7 +103,7 @@ pub struct Tally {
 }
 
 impl Tally {
-    ghost use Rattle.std.specs.Prelude.{◌⊎◌, ◌+◌, ◌<◌, nat_le, Ok, Err, Some, None, OnOk, if◌then◌else◌};
+    ghost use Rattle.std.specs.Prelude.{◌⊎◌, ◌+◌, ◌<◌, Ok, Err, Some, None, OnOk, if◌then◌else◌};
     ghost use Rattle.section_core.specs.Laws.{within};
     ghost use Rattle.std.specs.List.{list_any};
     ghost use Rattle.section_core.specs.Machine.{same};
@@ -201,7 +208,8 @@ impl Tally {
             → Admits line result (first_broken f (contour name.now (pos count))) (λ _.
             Tallies self.new (after f (contour name.now (pos count)))) }
     {
-        let limit = if self.section_vertices + count > MAX_SECTION_VERTICES {
+        let in_section = (self.section_vertices + count) as usize;
+        let limit = if !fits_section(in_section) {
             LimitName::SectionVertices
         } else if self.vertices + count > MAX_VERTICES {
             LimitName::Vertices

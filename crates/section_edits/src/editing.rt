@@ -20,9 +20,9 @@ ghost use Rattle.section_edits.specs.Ready.{IsReadyParts};
 use crate::changes::{with_contour, with_spots, without_contour, without_links};
 use crate::contours::{contour_of, has_section};
 use crate::edit::{Edit, EditFault};
-use fku_types::limits::{MAX_CONTOUR_VERTICES, MAX_CONTOURS, MAX_SECTION_VERTICES, MAX_VERTICES};
+use fku_types::limits::{MAX_CONTOUR_VERTICES, MAX_CONTOURS, MAX_VERTICES};
 use fku_types::{Fault, LimitName, Name, NoMemory, Point, Spot};
-use section_core::{Contour, Link, Section, Sections, is_coordinate};
+use section_core::{Contour, Link, Section, Sections, fits_section, is_coordinate};
 use std::alloc::Global;
 
 fn is_short(contour: &Contour) -> bool
@@ -52,7 +52,7 @@ fn vertices_in(section: &Section) -> usize
 fn is_small(section: &Section) -> bool
     ensures { result ≡ is_small (section_parts section.now) }
 {
-    vertices_in(section) <= MAX_SECTION_VERTICES as usize
+    fits_section(vertices_in(section))
 }
 
 fn all_vertices(sections: &[Section]) -> usize

@@ -1,6 +1,6 @@
 -- The fault of sections, by the test that finds it.
 use Rattle.std.proofs.Common.{◌≡◌, ℕ, List, inl, inr, refl, sym, map, subst}
-use Rattle.std.specs.Prelude.{Result, Ok, Err, IfOk, IfErr, MatchResult}
+use Rattle.std.specs.Prelude.{Result, Ok, Err, IfErr, MatchResult}
 use Rattle.fku_types.specs.declared.fault.Fault.{Fault}
 use Rattle.fku_types.specs.declared.fault.Fault.TheVariants as fault
 use Rattle.section_core.specs.Parts.{Parts}
@@ -37,12 +37,6 @@ pub compose_told : {X : Type 0} (r : Result X Fault) (side other : ℕ × ℕ) �
 compose_told (Ok v) side other e h = tt
 compose_told (Err f) side other e (inl h) = inr (subst (λ (s : ℕ × ℕ). HasLongSide s f) e h)
 compose_told (Err f) side other e (inr h) = inl h.0
-
--- what follows for the value of a result
-pub ok_then : {X E : Type 0} (r : Result X E) (P Q R : X → Type 0) → IfOk r P → IfOk r Q → ((v : X) → P v → Q v → R v)
-    → IfOk r R
-ok_then (Ok v) P Q R p q f = f v p q
-ok_then (Err e) P Q R p q f = tt
 
 -- ---- what holds of a result whose value or fault is known
 pub of_ok : {X : Type 0} (r : Result X Fault) (x : X) (P : X → Type 0) (Q : Fault → Type 0) → r ≡ Ok x

@@ -100,13 +100,13 @@ pub fn picked(alloc: Global, rings: &[Ring], places: &[u32]) -> Result<Vec<Ring>
 }
 
 // The composite of some rings of a section; or the fault that it is too long. `NoMemory` comes only if it is not.
-fn composed(alloc: Global, rings: &[Ring], section: u32) -> Result<Ring, Fault>
-    requires some { 0 < length rings.now }
-    requires contours { All IsContour rings.now }
-    requires few { sum_by (λ r. length r.points.items) rings.now ≤ MAX_SECTION_VERTICES }
-    ensures value { IfOk result (λ r. ring_view r ≡ composite (ring_views rings.now)) }
+fn composed(alloc: Global, rings: Vec<Ring>, section: u32) -> Result<Ring, Fault>
+    requires some { 0 < length rings.items }
+    requires contours { All IsContour rings.items }
+    requires few { sum_by (λ r. length r.points.items) rings.items ≤ MAX_SECTION_VERTICES }
+    ensures value { IfOk result (λ r. ring_view r ≡ composite (ring_views rings.items)) }
     ensures ring { IfOk result (λ r. IsRing r.points.items) }
-    ensures fault { IfErr result (IsComposeFault (section, length (composite (ring_views rings.now)).points)) }
+    ensures fault { IfErr result (IsComposeFault (section, length (composite (ring_views rings.items)).points)) }
 {
     match compose(alloc, rings) {
         Ok(ring) => Ok(ring),
@@ -131,5 +131,5 @@ pub fn composite_at(
         (OrNoMemory (HasLongSide (section, length (composite_at (ring_views rings.now) places.now).points))) }
 {
     let picked = picked(alloc, rings, places)?;
-    composed(alloc, &picked, section)
+    composed(alloc, picked, section)
 }

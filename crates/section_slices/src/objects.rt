@@ -1,5 +1,5 @@
 //! Slices of the objects of a text at one height.
-ghost use Rattle.std.specs.Prelude.{◌≡◌, ◌+◌, ◌≤◌, ◌++◌, ◌∷◌, [], ℕ, All, IfOk, length, map, sum_by};
+ghost use Rattle.std.specs.Prelude.{◌≡◌, ◌+◌, ◌≤◌, [], ℕ, All, IfOk, length, map, sum_by};
 ghost use Rattle.std.specs.List.{AllZip, flat_map};
 ghost use Rattle.pair_pool.specs.Solvers.{SolvesEach, raised_by, referents};
 ghost use Rattle.section_pairs.specs.Pairs.{pair_parts};

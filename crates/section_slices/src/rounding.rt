@@ -1,5 +1,5 @@
 //! Loops of slices, rounded to integer coordinates.
-ghost use Rattle.std.specs.Prelude.{◌≡◌, ◌*◌, ◌<◌, ◌≤◌, ◌≤ℤ◌, pos, unsigned_abs, All, IfOk, length, map, take};
+ghost use Rattle.std.specs.Prelude.{◌≡◌, ◌*◌, ◌≤◌, ◌≤ℤ◌, pos, unsigned_abs, All, IfOk, length, map, take};
 ghost use Rattle.std.specs.List.{dedup};
 ghost use Rattle.fku_types.specs.Points.{IsCoordinate};
 ghost use Rattle.section_slices.specs.Roundings.{rounded, rounded_spot, is_same_spot, opened_loop, rounded_loop, IsCloseToOne, IsRoundedInRange};

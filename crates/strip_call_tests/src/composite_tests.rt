@@ -1,19 +1,28 @@
 //! The composite of three rings.
+ghost use Rattle.std.specs.Prelude.{◌≡◌, [], ◌∷◌, IfOk};
 ghost use Rattle.plane_geom.specs.RingViews.{IsContour};
 
 use crate::comparisons::same;
 use crate::rings::four_points;
+use fku_types::NoMemory;
 use plane_geom::Ring;
 use ring_polygons::{ComposeFault, compose};
 use std::alloc::Global;
 use std::test::Fail;
+
+fn three(alloc: Global, first: Ring, second: Ring, third: Ring) -> Result<Vec<Ring>, NoMemory>
+    ensures { IfOk result (λ v. v.items ≡ first ∷ second ∷ third ∷ []) }
+{
+    Ok(vec![in alloc; first, second, third]?)
+}
 
 fn join_three(alloc: Global, first: Ring, second: Ring, third: Ring) -> Result<Ring, ComposeFault>
     requires first { IsContour first }
     requires second { IsContour second }
     requires third { IsContour third }
 {
-    compose(alloc, &[first, second, third])
+    let rings = three(alloc, first, second, third)?;
+    compose(alloc, rings)
 }
 
 type Corners = [(i32, i32); 4];

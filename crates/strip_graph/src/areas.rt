@@ -42,9 +42,9 @@ fn cross_square(a: i64, b: i64, c: i64, d: i64) -> u128
     square(cross(a, b, c, d))
 }
 
-/// The squared doubled area of a triangle.
+/// The squared doubled area of a triangle whose corners are in range. Takes no memory.
 #[inline(always)]
-pub(crate) fn area_square(a: Point, b: Point, c: Point) -> u128
+pub fn area_square(a: Point, b: Point, c: Point) -> u128
     requires a { IsInRange a }
     requires b { IsInRange b }
     requires c { IsInRange c }

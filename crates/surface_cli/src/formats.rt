@@ -1,5 +1,4 @@
 //! The formats in which surfaces are written.
-ghost use Rattle.std.specs.Prelude.{◌≡◌};
 ghost use Rattle.byu_text.specs.Byu.{byu_of};
 
 use byu_text::write_byu;

@@ -5,9 +5,10 @@ ghost use Rattle.command_replies.specs.Reply.{Replies};
 ghost use Rattle.surface_commands.specs.Count.{count, has_text, yes_or_no};
 ghost use Rattle.surface_commands.specs.MeshTexts.{parts_line};
 
-use byu_text::{ByuCounts, counts, read_byu};
+use byu_text::read_byu;
 use fku_types::limits::MAX_MESH_BYTES;
 use fku_types::{Fault, NoMemory};
+use mesh_measures::{MeshCounts, counts};
 use std::alloc::{AllocError, Global};
 use text_io::{put, put_count};
 
@@ -43,11 +44,11 @@ fn has_line(
 }
 
 // The five lines of counts.
-fn count_text(alloc: Global, counts: ByuCounts) -> Result<Vec<u8>, NoMemory>
+fn count_text(alloc: Global, counts: MeshCounts) -> Result<Vec<u8>, NoMemory>
     ensures { IfOk result (λ v.
         v.items ≡ has_text counts.parts counts.vertices counts.polygons counts.edges counts.closed) }
 {
-    let ByuCounts {
+    let MeshCounts {
         parts,
         vertices,
         polygons,

@@ -1,5 +1,5 @@
 //! The command `edit`.
-ghost use Rattle.std.specs.Prelude.{◌≡◌, ◌⊎◌, ◌<◌, ◌≤◌, ◌+◌, ◌++◌, codes, decimal, IfOk, OnOk, Ok, Err, [], drop, length, unwrap_or, IfErr};
+ghost use Rattle.std.specs.Prelude.{◌≡◌, ◌⊎◌, ◌≤◌, ◌++◌, codes, decimal, IfOk, OnOk, Ok, Err, [], drop, length, unwrap_or, IfErr};
 ghost use Rattle.text_io.specs.Text.{words};
 ghost use Rattle.text_io.specs.WordLists.{first_number, lines_of};
 ghost use Rattle.section_edits.specs.declared.edit.EditFault.TheVariants as refusal;

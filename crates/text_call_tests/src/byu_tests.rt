@@ -1,9 +1,8 @@
 //! A text of a mesh that is read and counted. `tools/tests/rows/count.rows` has those that are refused.
 use crate::answers::same;
-use byu_text::{
-    ByuCounts, counts, first_lines_tell_a_front, read_back, read_byu, texts_have_one_reading,
-};
+use byu_text::{first_lines_tell_a_front, read_back, read_byu, texts_have_one_reading};
 use fku_types::Point;
+use mesh_measures::{MeshCounts, counts};
 use std::process::Abort;
 use std::test::Fail;
 use triangle_meshes::Mesh;
@@ -36,7 +35,7 @@ fn has_two_parts<R: Abort>(rt: &R, mesh: &Mesh) -> Result<(), Fail> {
 }
 
 // An edge of both parts counts once; no part is closed by itself.
-const COUNTS: ByuCounts = ByuCounts {
+const COUNTS: MeshCounts = MeshCounts {
     parts: 2,
     vertices: 3,
     polygons: 2,

@@ -1,7 +1,7 @@
-//! Triangles of a part that cross.
+//! Triangles of a part that cross. `tools/tests/rows/crossings.rows` has the largest coordinates.
 use crate::answers::same;
 use fku_types::Point;
-use mesh_measures::{Corners, cross, crossings};
+use mesh_measures::crossings;
 use std::test::Fail;
 
 // A floor, a triangle that stands upright in it, another beside that one, and a triangle that stands on the floor.
@@ -25,54 +25,5 @@ fn a_floor_is_crossed_by_two_triangles_and_touched_by_one(rt: HostRuntime) -> Re
     let found = crossings(rt.alloc(), &VERTICES, &TRIANGLES)?;
     same(&rt, found.counts.as_slice(), [2, 1, 1, 0].as_slice());
     same(&rt, found.pairs, 2);
-    Ok(())
-}
-
-#[test]
-fn no_triangles_cross_in_an_empty_part(rt: HostRuntime) -> Result<(), Fail> {
-    let found = crossings(rt.alloc(), &VERTICES, &[])?;
-    same(&rt, found.counts.len(), 0);
-    same(&rt, found.pairs, 0);
-    Ok(())
-}
-
-#[test]
-fn the_largest_coordinates_fit(rt: HostRuntime) -> Result<(), Fail> {
-    let most = 999_999;
-    let floor = Corners {
-        a: Point {
-            x: -most,
-            y: -most,
-            z: 0,
-        },
-        b: Point {
-            x: most,
-            y: -most,
-            z: 0,
-        },
-        c: Point {
-            x: 0,
-            y: most,
-            z: 0,
-        },
-    };
-    let upright = Corners {
-        a: Point {
-            x: 0,
-            y: 0,
-            z: -most,
-        },
-        b: Point {
-            x: 0,
-            y: 0,
-            z: most,
-        },
-        c: Point {
-            x: most,
-            y: most,
-            z: most,
-        },
-    };
-    same(&rt, cross(&floor, &upright), true);
     Ok(())
 }

@@ -1,5 +1,5 @@
 //! Counts of the edges and triangles of meshes, and meshes one after another.
-ghost use Rattle.std.specs.Prelude.{[], ◌∷◌, ◌≤◌, length};
+ghost use Rattle.std.specs.Prelude.{◌≤◌, length};
 ghost use Rattle.triangle_meshes.specs.Meshes.{surface_of, IsValid};
 
 use crate::answers::same;
@@ -8,7 +8,7 @@ use fku_types::{NoMemory, Point};
 use std::alloc::Global;
 use std::process::Abort;
 use std::test::Fail;
-use triangle_meshes::{Mesh, balanced, edge_count, join_meshes, triangle_count};
+use triangle_meshes::{Mesh, edge_count, join_meshes, triangle_count};
 
 // Three squares: one at height 0, and two at height 10 whose corners 5 and 8 are joined by a bridge.
 const CORNERS: [Point; 12] = [
@@ -85,21 +85,6 @@ fn edges_are_counted<R: Abort>(rt: &R, surface: &Mesh)
 fn a_bridge_is_passed_once_in_each_direction(rt: HostRuntime) -> Result<(), Fail> {
     let surface = two_parts(rt.alloc(), &CORNERS, &BRANCHING, &CUBE)?;
     edges_are_counted(&rt, &surface);
-    Ok(())
-}
-
-fn is_balanced(alloc: Global, first: &[[u32; 3]], second: &[[u32; 3]]) -> Result<bool, NoMemory>
-    requires { IsValid (record { vertices = CORNERS; parts = first.now ∷ second.now ∷ [] }) }
-{
-    balanced(alloc, &two_parts(alloc, &CORNERS, first, second)?)
-}
-
-#[test]
-fn a_single_triangle_is_not_balanced(rt: HostRuntime) -> Result<(), Fail> {
-    let alloc = rt.alloc();
-    same(&rt, is_balanced(alloc, &CUBE, &BRANCHING)?, true);
-    same(&rt, is_balanced(alloc, &CUBE, &SINGLE)?, false);
-    same(&rt, is_balanced(alloc, &SINGLE, &CUBE)?, false);
     Ok(())
 }
 

@@ -3,7 +3,7 @@ ghost use Rattle.fku_types.specs.Points.{IsInRange};
 ghost use Rattle.triangle_meshes.specs.Meshes.{surface_of, IsValid};
 
 use crate::answers::same;
-use crate::solids::{CORNERS, CUBE, FAR_CORNERS, FAR_TETRAHEDRON, one_part, two_parts};
+use crate::solids::{CORNERS, CUBE, two_parts};
 use fku_types::Point;
 use std::test::Fail;
 use triangle_meshes::{Mesh, six_volume, six_volume_about};
@@ -32,15 +32,5 @@ fn the_parts_are_counted_together(rt: HostRuntime) -> Result<(), Fail> {
     // The half face lies 5 above the point.
     let open = two_parts(alloc, &CORNERS, &HALF_FACE, &TETRAHEDRON)?;
     same(&rt, volumes(&open, POINT), (2000, 1500));
-    Ok(())
-}
-
-#[test]
-fn the_largest_coordinates_fit(rt: HostRuntime) -> Result<(), Fail> {
-    let alloc = rt.alloc();
-    let far = one_part(alloc, &FAR_CORNERS, &FAR_TETRAHEDRON)?;
-    // A third of the cube of side 2 * 999,999: six of it are 16 * 999,999 ^ 3.
-    let want = 15_999_952_000_047_999_984;
-    same(&rt, volumes(&far, FAR_CORNERS[3]), (want, want));
     Ok(())
 }

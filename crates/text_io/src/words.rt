@@ -1,5 +1,5 @@
 //! The words of a line, one after another: bytes, and integers in a range.
-ghost use Rattle.std.specs.Prelude.{◌≡◌, ◌∷◌, ◌≤◌, [], MatchOption, bytes_eq, ℕ};
+ghost use Rattle.std.specs.Prelude.{◌≡◌, ◌∷◌, [], MatchOption, bytes_eq, ℕ};
 ghost use Rattle.text_io.specs.Text.{words};
 ghost use Rattle.text_io.specs.WordLists.{Line, IsCount, IsFirstCount};
 

@@ -1,5 +1,5 @@
 -- Meshes joined in order.
-use Rattle.std.proofs.Common.{◌≡◌, ℕ, ◌+◌, ◌-◌, ◌<◌, ◌≤◌, ◌&&◌, inl, inr, Bool, true, false, cond, List, [], ◌∷◌, ◌++◌, map, length, get_or, take, drop, refl, ap, sym, subst, ◌∙◌, append-nil, arith, All}
+use Rattle.std.proofs.Common.{◌≡◌, ℕ, ◌+◌, ◌-◌, ◌<◌, ◌≤◌, ◌&&◌, inl, inr, Bool, true, false, cond, List, [], ◌∷◌, ◌++◌, map, length, get_or, take, drop, refl, ap, ap₂, sym, subst, ◌∙◌, append-nil, arith, All}
 use Rattle.std.specs.Prelude.{◌==◌}
 use Rattle.std.specs.List.{flat_map, AllByRecursion}
 use Rattle.std.proofs.lemmas.List.{length-append, length-map, get_or-map, map-append, drop_all, take-map}
@@ -165,3 +165,21 @@ pub none_left : (ps all : List (List (List ℕ))) (n : ℕ) (xs : List Mesh) (i 
     → ps ++ joined_parts n (map surface_of (drop i xs)) ≡ all → ps ≡ all
 none_left ps all n xs i le h = sym (append-nil ps)
     ∙ ap (λ (ys : List Mesh). ps ++ joined_parts n (map surface_of ys)) (sym (drop_all i xs le)) ∙ h
+
+same_triangle : (t : List ℕ) → raised_triangle 0 t ≡ t
+same_triangle [] = refl
+same_triangle (id ∷ t) = ap₂ (λ (n : ℕ) ns. n ∷ ns) (omega arith) (same_triangle t)
+
+same_part : (part : List (List ℕ)) → raised_part 0 part ≡ part
+same_part [] = refl
+same_part (t ∷ part) = ap₂ (λ (x : List ℕ) xs. x ∷ xs) (same_triangle t) (same_part part)
+
+same_parts : (parts : List (List (List ℕ))) → raised 0 parts ≡ parts
+same_parts [] = refl
+same_parts (part ∷ parts) = ap₂ (λ (x : List (List ℕ)) xs. x ∷ xs) (same_part part) (same_parts parts)
+
+-- one mesh joined is itself
+pub one_joined : (s : Surface) → joined (s ∷ []) ≡ s
+one_joined s =
+    ap₂ (λ (vs : List Point) ps. record { vertices = vs; parts = ps }) (append-nil s.vertices)
+    (append-nil (raised 0 s.parts) ∙ same_parts s.parts)

@@ -1,14 +1,16 @@
 pub mod StripLaws
-pub mod KnownEdges
+mod KnownEdges
 pub mod TileIds
-pub mod SortedEdges
+mod SortedNumbers
+mod Ways
 pub mod TriangleCounts
 pub mod Parts
 pub mod Validity
 pub mod PairTests
+pub mod KeyLaws
 pub mod VertexPairs
 mod Worked
-mod JoinedMeshes
+pub mod JoinedMeshes
 pub mod Sizes
 pub mod Determinants
 pub mod Anywhere

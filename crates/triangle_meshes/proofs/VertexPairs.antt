@@ -1,14 +1,13 @@
 -- The pairs of vertices below a number: each occurs among them once.
-use Rattle.std.proofs.Common.{◌≡◌, ◌⊎◌, inl, inr, ℕ, ◌+◌, ◌<◌, ◌≤◌, ◌==◌, ◌&&◌, ◌||◌, Bool, true, false, cond, zero, suc, List, [], ◌∷◌, ◌++◌, map, refl, sym, ap, ◌∙◌, arith, eq-eqb, subst}
-use Rattle.std.specs.List.{AllByRecursion, IsDistinct, filter, range_with_len}
+use Rattle.std.proofs.Common.{◌≡◌, ◌⊎◌, inl, inr, ℕ, ◌+◌, ◌<◌, ◌≤◌, ◌==◌, ◌&&◌, ◌||◌, Bool, true, false, zero, suc, List, [], ◌∷◌, ◌++◌, map, refl, ap, ◌∙◌, arith, eq-eqb}
+use Rattle.std.specs.List.{AllByRecursion, IsDistinct, range_with_len}
 use Rattle.std.specs.Set.{is_member}
 use Rattle.std.proofs.lemmas.List.Folds.{list_any-append}
 use Rattle.std.proofs.lemmas.Bool.{ne_eqb, and_from, cases_lt, or_left, or_right, and_right}
-use Rattle.std.proofs.lemmas.List.Elements.{recursion_from_All, All-filter, All-from_recursion}
 use Rattle.std.proofs.lemmas.Map.Keys.{IsDistinct-cons}
 use Rattle.fku_types.proofs.ListLaws.{all_join, all_weaker}
 use Rattle.triangle_meshes.specs.Edges.{pairs_below}
-use Rattle.triangle_meshes.proofs.PairTests.{same_edge, same_pair, IsPair}
+use Rattle.triangle_meshes.proofs.PairTests.{same_edge, IsPair}
 
 -- a row of pairs differs from a pair before it
 row_apart : (a b k n : ℕ) (rest : List (ℕ × ℕ)) → a < b → AllByRecursion (IsPair n) rest
@@ -73,27 +72,3 @@ pairs_have (suc n) u v l m = by_order (cases_lt v n) (pairs_have n u v l)
     by_order (inr o) earlier = (let e : v ≡ n = omega arith in
         ap (λ (w : ℕ). is_member same_edge (row ++ pairs_below n) (u, w)) e
         ∙ row_has 0 (n + 1) n u (pairs_below n) (omega arith) (omega arith))
-
-pub member_is : (n : ℕ) (es : List (ℕ × ℕ)) (q : ℕ × ℕ) → AllByRecursion (IsPair n) es → is_member same_edge es q ≡ true
-    → IsPair n q
-member_is n [] q a t = absurd (let f : false ≡ true = t in cc)
-member_is n (e ∷ es) q a t = by_test (same_edge q e) refl (member_is n es q a.1)
-  where
-    by_test : (b : Bool) → same_edge q e ≡ b → (is_member same_edge es q ≡ true → IsPair n q) → IsPair n q
-    by_test true h later = subst (IsPair n) (sym (same_pair q e h)) a.0
-    by_test false h later = later (ap (λ (b : Bool). b || is_member same_edge es q) (sym h) ∙ t)
-
-pub kept_distinct : (p : ℕ × ℕ → Bool) (es : List (ℕ × ℕ)) → IsDistinct same_edge es
-    → IsDistinct same_edge (filter p es)
-unfolding IsDistinct
-kept_distinct p [] d = tt
-kept_distinct p (e ∷ es) d = by_test (p e) (apart d.0) (kept_distinct p es d.1)
-  where
-    apart : AllByRecursion (λ y. same_edge e y ≡ false) es → AllByRecursion (λ y. same_edge e y ≡ false) (filter p es)
-    apart a = let Apart : ℕ × ℕ → Type 0 = λ y. same_edge e y ≡ false in
-        recursion_from_All Apart (filter p es) (All-filter p Apart es (All-from_recursion Apart es a))
-
-    by_test : (b : Bool) → AllByRecursion (λ y. same_edge e y ≡ false) (filter p es)
-        → IsDistinct same_edge (filter p es) → IsDistinct same_edge (cond b (e ∷ filter p es) (filter p es))
-    by_test true apart later = IsDistinct-cons same_edge e (filter p es) apart later
-    by_test false apart later = later

@@ -1,7 +1,7 @@
 pub mod Meshes
 pub mod Tiles
-pub mod EdgeNumbers
 pub mod Joined
 pub mod Edges
+pub mod Keys
 pub mod Volumes
 pub mod Vectors

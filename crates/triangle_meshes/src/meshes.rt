@@ -1,5 +1,5 @@
 //! Meshes, and how often a directed edge occurs in them.
-ghost use Rattle.std.specs.Prelude.{◌≡◌, ◌+◌, ◌*◌, ◌<◌, ◌≤◌, [], ◌∷◌, length, sum_by, slice_get, IfSome, if◌then◌else◌};
+ghost use Rattle.std.specs.Prelude.{◌≡◌, ◌+◌, ◌<◌, ◌≤◌, [], ◌∷◌, length, sum_by, slice_get, IfSome, if◌then◌else◌};
 ghost use Rattle.plane_geom.specs.Rings.{edge_count, is_edge};
 ghost use Rattle.triangle_meshes.specs.Meshes.{surface_of, triangle_lists, IsValid};
 

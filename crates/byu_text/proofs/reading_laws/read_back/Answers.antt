@@ -1,24 +1,13 @@
-use Rattle.std.proofs.Common.{arith, ◌≡◌, ◌≤◌, length, Result, Ok, Err, ap, ◌∙◌}
+use Rattle.std.proofs.Common.{arith, ◌≡◌, length, Result, Ok, Err, ap, ◌∙◌}
 use Rattle.std.specs.Prelude.{IfOk, IfErr}
 use Rattle.triangle_meshes.specs.Meshes.{Surface, surface_of}
 use Rattle.triangle_meshes.specs.declared.meshes.Mesh.{Mesh}
-use Rattle.byu_text.specs.Byu.{byu_of}
-use Rattle.fku_types.specs.declared.limits.TheConstants.{MAX_MESH_BYTES}
 use Rattle.fku_types.specs.declared.fault.Fault.{Fault}
 use Rattle.fku_types.specs.declared.fault.Fault.TheVariants.{NoMemory}
 use Rattle.byu_text.specs.Reading.{IsMesh}
 use Rattle.byu_text.specs.Answers.{ReadsBackMesh}
-use Rattle.byu_text.proofs.Written.{polygons_of, head_of, sizes_of, pieces_of, written}
-use Rattle.byu_text.proofs.PolygonsStuck.{whole_width}
+use Rattle.byu_text.proofs.PolygonsStuck.{mesh_width}
 use Rattle.byu_text.proofs.reading_laws.read_back.Goals as goal
-
-short : (s : Surface) → IsMesh s → length (byu_of s) ≤ MAX_MESH_BYTES
-short s m =
-    let p = pieces_of s m in
-    let few = p.head.few_parts in
-    let vertices = p.head.few_vertices in
-    let polygons = p.head.few_polygons in
-    omega (arith, ap length (written s), whole_width (head_of s) (sizes_of s) s.vertices (polygons_of s) p)
 
 back : (s : Surface) (r : Result Mesh Fault) → ReadsBackMesh s r → IfOk r (λ m. surface_of m ≡ s)
 back s (Ok m) g = g
@@ -32,7 +21,7 @@ pub read_byu-requires : goal.read_byu-requires
 read_byu-requires c =
     let s = surface_of c.args.mesh.now in
     let m : IsMesh s = record { valid = c.requires; triangles = c.are_triangles.ensures } in
-    omega (arith, short s m, ap length (c.deref.ensures.value ∙ c.in_ok-text.ensures))
+    omega (arith, mesh_width s m, ap length (c.deref.ensures.value ∙ c.in_ok-text.ensures))
 
 pub returns-clause-ok : goal.returns-clause-ok
 returns-clause-ok c =

@@ -1,4 +1,4 @@
-use Rattle.std.proofs.Common.{◌≡◌, ◌∙◌, ◌++◌, ◌∷◌, [], ap, List, ℕ, Option, Some, Vec, cond, bytes_eq}
+use Rattle.std.proofs.Common.{◌∙◌, ◌++◌, ◌∷◌, [], ap, List, ℕ, Option, Some, Vec, cond, bytes_eq}
 use Rattle.std.specs.Global.{Global}
 use Rattle.indexmap.specs.IndexMap.{get}
 use Rattle.section_core.specs.Views.{link_parts}

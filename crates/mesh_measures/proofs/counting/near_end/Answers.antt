@@ -2,7 +2,8 @@ use Rattle.std.proofs.Common.{rules, int_lt}
 use Rattle.std.proofs.lemmas.List.Sorted.{IsPartitionPoint-from_clause}
 use Rattle.mesh_measures.specs.declared.triangle_boxes.Boxed.{Boxed}
 use Rattle.mesh_measures.specs.TriangleBoxes.{x_of}
-use Rattle.mesh_measures.proofs.Layers.{not_less_is, parted_lt}
+use Rattle.mesh_measures.proofs.Layers.{parted_lt}
+use Rattle.fku_types.proofs.TruthLaws.{int_lt_not}
 use Rattle.mesh_measures.proofs.counting.near_end.Goals as goal
 
 pub returns-clause-past : goal.returns-clause-past
@@ -10,4 +11,4 @@ returns-clause-past c =
     let xs = c.args.level.now in
     let point = IsPartitionPoint-from_clause (λ (b : Boxed). int_lt b.least.x c.args.x) xs c.partition_point.result
     c.partition_point.ensures.partitioned (parted_lt x_of xs c.args.x c.requires) (λ a r q k. search rules) in
-    λ k d from below. not_less_is _ _ (point.1 k d from below)
+    λ k d from below. int_lt_not _ _ (point.1 k d from below)

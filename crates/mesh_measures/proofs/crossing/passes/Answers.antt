@@ -3,14 +3,12 @@ use mir.Syntax.{w128}
 use Rattle.mesh_measures.specs.Turns.{turn}
 use Rattle.mesh_measures.specs.Crossings.{are_opposite, have_one_sign, passes}
 use Rattle.triangle_meshes.proofs.Sizes.{passed}
+use Rattle.mesh_measures.proofs.Axes.{three}
 use Rattle.mesh_measures.proofs.crossing.passes.Goals as goal
 
 -- a volume passed to a call is itself
 itself : (r v : ℤ) → r ≡ v → unsigned_abs r ≤ 48000000000000000000 → to_z w128 (of_z w128 r) ≡ v
 itself r v e h = passed r (omega arith) ∙ e
-
-three : (l m n l' m' n' : ℤ) → l ≡ l' → m ≡ m' → n ≡ n' → have_one_sign l m n ≡ have_one_sign l' m' n'
-three l m n l' m' n' e f g = ap₂ (λ (x y : ℤ). have_one_sign x y n) e f ∙ ap (λ (z : ℤ). have_one_sign l' m' z) g
 
 pub returns-then-are_opposite : goal.returns-then-are_opposite
 unfolding passes

@@ -1,5 +1,5 @@
 use Rattle.std.proofs.Common.{inl, inr}
-use Rattle.mesh_measures.specs.Keys.{times}
+use Rattle.triangle_meshes.specs.Keys.{times}
 use Rattle.mesh_measures.proofs.Often.{two_added, third_added, third_there}
 use Rattle.mesh_measures.proofs.edges.add_sides.Goals as goal
 use Rattle.mesh_measures.proofs.edges.add_sides.Goals.{then-bc-ab+in_ok-push-2, else-bc-ab, else-ca-ab-via-then-ca-ab+else-ca-bc, else-ca-ab-via-else-ca-ab}

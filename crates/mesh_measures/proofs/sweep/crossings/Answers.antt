@@ -5,7 +5,8 @@ use Rattle.std.proofs.lemmas.List.Sorted.{All-permutation}
 use Rattle.mesh_measures.specs.declared.triangle_boxes.Boxed.{Boxed}
 use Rattle.mesh_measures.specs.Crossings.{corners_of, part_corners, crossing_counts, crossing_pairs}
 use Rattle.mesh_measures.specs.TriangleBoxes.{IsBoxed, boxed_corners, tally}
-use Rattle.mesh_measures.proofs.Whole.{Made, as_many_sorted, places_below, tally_fits, counts_are, pairs_are, both_ok}
+use Rattle.mesh_measures.proofs.Whole.{Made, as_many_sorted, places_below, tally_fits, counts_are, pairs_are}
+use Rattle.fku_types.proofs.AnswerLaws.{ok_then}
 use Rattle.mesh_measures.proofs.sweep.crossings.Goals as goal
 use Rattle.mesh_measures.proofs.sweep.crossings.Goals.{After-swept-sorted}
 
@@ -49,7 +50,7 @@ counted-requires-clause-room c =
 
 pub returns-clause-counts : goal.returns-clause-counts
 returns-clause-counts c =
-    both_ok c.counted.result (λ r. length r.counts.items ≡ length c.deref.result.now)
+    ok_then c.counted.result (λ r. length r.counts.items ≡ length c.deref.result.now)
     (λ r. (i : ℕ) → slice_index r.counts.items i ≡ tally c.deref.result.now i)
     (λ r. r.counts.items ≡ crossing_counts _) c.counted.ensures.length c.counted.ensures.counts
     (λ r same is. counts_are _ _ _ (made (goal.at.returns-clause-counts c).After-swept-sorted) r.counts.items
@@ -58,7 +59,7 @@ returns-clause-counts c =
 
 pub returns-clause-pairs : goal.returns-clause-pairs
 returns-clause-pairs c =
-    both_ok c.counted.result (λ r. r.pairs ≡ crossing_pairs (boxed_corners c.deref.result.now))
+    ok_then c.counted.result (λ r. r.pairs ≡ crossing_pairs (boxed_corners c.deref.result.now))
     (λ r. r.pairs ≡ crossing_pairs (boxed_corners c.deref.result.now)) (λ r. r.pairs ≡ crossing_pairs _)
     c.counted.ensures.pairs c.counted.ensures.pairs
     (λ r is _. is ∙ ap (λ (xs : List Boxed). crossing_pairs (boxed_corners xs)) c.deref.ensures.value

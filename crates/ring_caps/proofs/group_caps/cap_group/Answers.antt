@@ -9,12 +9,12 @@ use Rattle.ring_caps.proofs.group_caps.cap_group.Goals as goal
 
 pub returns-clause-area : goal.returns-clause-area
 returns-clause-area c =
-    let rings = c.args.rings.now in
+    let rings = c.args.rings.items in
     group_sides (ring_views rings) (views rings c.requires.contours) (some_views rings c.requires.some)
 
 pub returns-clause-numbered_area : goal.returns-clause-numbered_area
 returns-clause-numbered_area c vertices numbered =
-    let rings = c.args.rings.now in
+    let rings = c.args.rings.items in
     ap (area_of vertices) (c.in_ok-list.ensures.triangles
     ∙ ap (λ (r : RingView). cap_by Pass r.points r.ids) c.in_ok-ring.ensures.value)
     ∙ group_area vertices (ring_views rings) (views rings c.requires.contours) (some_views rings c.requires.some)

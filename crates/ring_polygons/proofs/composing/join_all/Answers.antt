@@ -1,7 +1,6 @@
-use Rattle.std.proofs.Common.{arith, ◌≡◌, ◌<◌, ℕ, suc, ap, sym, ◌∙◌, length, List, All, remove, take, drop, ◌++◌, subst, inl, inr, ◌+◌, ◌-◌}
+use Rattle.std.proofs.Common.{arith, ◌≡◌, ◌<◌, ℕ, suc, ap, sym, ◌∙◌, length, List, All, remove, take, drop, ◌++◌, subst, inl, inr, ◌+◌}
 use Rattle.std.proofs.lemmas.Bool.{cases_lt}
 use Rattle.std.proofs.lemmas.List.{length-map}
-use Rattle.std.proofs.lemmas.List.Elements.{All-take, All-drop}
 use Rattle.std.proofs.lemmas.List.Edits.{length-remove, get_or-remove_below, get_or-remove_above}
 use Rattle.fku_types.specs.declared.points.Point.{Point}
 use Rattle.fku_types.specs.Points.{IsInRange}
@@ -14,7 +13,7 @@ use Rattle.ring_polygons.specs.Nearest.{near_at, AreNearest, IsExtended}
 use Rattle.ring_polygons.proofs.BridgeLaws.{join-length}
 use Rattle.ring_polygons.proofs.NearestLaws.{nearest_remove}
 use Rattle.ring_polygons.proofs.Choices.{Choice, choice, extended}
-use Rattle.ring_polygons.proofs.Joining.{contour_like, joins_all, joins_on, views_remove, join_range}
+use Rattle.ring_polygons.proofs.Joining.{joins_all, joins_on, views_remove, join_range}
 use Rattle.std.proofs.lemmas.Grind.{common_steps}
 use Rattle.ring_polygons.proofs.composing.join_all.Goals as goal
 use Rattle.ring_polygons.proofs.composing.join_all.Goals.{After-remove-other, After-deref-in-joining-3}
@@ -40,26 +39,19 @@ points_from : (c : After-deref-in-joining-3)
     → c.deref-in-joining-3.result.now
     ≡ join c.joining.ring.points.items c.remove-other.result.points.items c.remove-near.result.place
     c.remove-near.result.vertex
-points_from c = c.deref-in-joining-3.ensures.value ∙ ap (λ (l : RingView). l.points) c.in_ok-ring-2.ensures
-
-pub copies-requires : goal.copies-requires
-copies-requires c =
-    let rings = c.args.rings.now in
-    All-take IsContour (length rings - 1) (drop 1 rings) (All-drop IsContour 1 rings c.requires.contours)
+points_from c = c.deref-in-joining-3.ensures.value ∙ ap (λ (l : RingView). l.points) c.in_ok-ring.ensures
 
 pub joining-init : goal.joining-init
 joining-init c =
-    let rings = c.args.rings.now in
-    let first = c.index-rings-0.result in
-    let ring = c.in_ok-ring.ring in
-    let others = c.in_ok-others.others.items in
-    let contour : IsContour ring = contour_like ring first c.in_ok-ring.ensures
-    (subst IsContour (sym c.index-rings-0.is) (c.requires.contours 0 first c.requires.some)) in
+    let rings = c.args.rings.items in
+    let ring = c.remove-ring.result in
+    let others = c.remove-ring.new.self.items in
+    let contour : IsContour ring = subst IsContour (sym c.remove-ring.ensures.value)
+    (c.requires.contours 0 ring c.requires.some) in
     let nears = c.in_ok-nears.nears.items in
     record {
-      value = joins_all rings first ring others c.requires.some c.index-rings-0.is c.in_ok-ring.ensures
-          c.in_ok-others.ensures.views;
-      contours = c.in_ok-others.ensures.contours;
+      value = joins_all rings ring others c.requires.some c.remove-ring.ensures.value c.remove-ring.ensures.items;
+      contours = rest_contours rings others 0 c.requires.some c.remove-ring.ensures.items c.requires.contours;
       range = contour.in_range;
       enough = contour.enough;
       nearest = subst (λ (l : List Point). AreNearest l (ring_views others) nears) c.deref.ensures.value
@@ -172,7 +164,7 @@ joining-preserved c =
     let k = c.first_of-first.result in
     let near = c.remove-near.result in
     let other = c.remove-other.result in
-    let next = c.in_ok-ring-2.ring in
+    let next = c.in_ok-ring.ring in
     let chosen = chosen_of (goal.at.joining-preserved c).After-remove-other in
     let place = sym (ap (λ (x : Bridge). x.place) chosen.bridge) in
     let which = sym (ap (λ (x : Bridge). x.other) chosen.bridge) in
@@ -182,7 +174,7 @@ joining-preserved c =
     let size : suc (length rest) ≡ length others =
     omega (arith, ap length c.remove-other.ensures.items, length-remove others k chosen.there) in
     let points : next.points.items ≡ join ring.points.items other.points.items near.place near.vertex =
-    ap (λ (l : RingView). l.points) c.in_ok-ring-2.ensures in
+    ap (λ (l : RingView). l.points) c.in_ok-ring.ensures in
     let left = c.remove-near.new.self in
     let rest_nearest = nearest_remove ring.points.items (ring_views others) nears k
     (omega (arith, chosen.there, length-map others ring_view)) v.nearest in
@@ -205,7 +197,7 @@ joining-preserved c =
     grind (arith, common_steps) in
     record {
       value = joins_on (ring_view ring) (ring_view next) (ring_views others) (ring_views rest) (length rest) near.place
-          k near.vertex (ring_view other) place which vertex chosen.read c.in_ok-ring-2.ensures gone
+          k near.vertex (ring_view other) place which vertex chosen.read c.in_ok-ring.ensures gone
           ∙ ap (λ (n : ℕ). join_others n (ring_view ring) (ring_views others)) size ∙ v.value;
       contours = rest_contours others rest k chosen.there c.remove-other.ensures.items v.contours;
       range = subst (All IsInRange) (sym points)

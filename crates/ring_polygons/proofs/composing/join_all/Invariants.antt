@@ -8,7 +8,7 @@ use Rattle.ring_polygons.proofs.composing.join_all.Given as goal
 abbrev pub invariant-joining : goal.invariant-joining
 invariant-joining l = record {
   value : join_others (length l.others.items) (ring_view l.ring) (ring_views l.others.items)
-      ≡ composite (ring_views l.rings);
+      ≡ composite (ring_views l.fn.rings.items);
   contours : All IsContour l.others.items;
   range : All IsInRange l.ring.points.items;
   enough : 3 ≤ length l.ring.points.items;

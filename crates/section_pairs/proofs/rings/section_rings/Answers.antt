@@ -7,7 +7,7 @@ use Rattle.correspondence.specs.Contours.{point_lists}
 use Rattle.correspondence.specs.Nesting.{oriented}
 use Rattle.section_pairs.specs.Rings.{rings_at, AreSectionRings}
 use Rattle.section_pairs.proofs.SectionRings.{section_vertices, first_is, few_ids, kept_outlines, limits_kept, rings_are, count_is}
-use Rattle.section_pairs.proofs.FoundCases.{ok_then}
+use Rattle.fku_types.proofs.AnswerLaws.{ok_then}
 use Rattle.section_pairs.proofs.rings.section_rings.Goals as goal
 
 pub oriented-requires-clause-ids : goal.oriented-requires-clause-ids

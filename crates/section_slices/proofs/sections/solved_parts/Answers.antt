@@ -33,7 +33,8 @@ returns-in_err-solved-clause-not_more g c = omega (
 
 pub returns-clause-counted : goal.returns-clause-counted
 returns-clause-counted g c =
-    on_any _ c.made_parts.result (rw (count g (goal.at.returns-clause-counted g c).After-solve_each) c.in_ok-solved.ensures.counted)
+    on_any _ c.made_parts.result (rw (count g (goal.at.returns-clause-counted g c).After-solve_each)
+    c.in_ok-solved.ensures.counted)
 
 pub returns-clause-not_more : goal.returns-clause-not_more
 returns-clause-not_more g c = omega (

@@ -1,15 +1,12 @@
-use Rattle.std.proofs.Common.{arith, T, ◌≡◌, ℤ, ◌*◌, ◌*ℤ◌, ◌≤◌, pos, negsuc, unsigned_abs, ap, sym, subst, mul-le-mul, ◌∙◌, to_z, of_z, to_z-of_z, Fits, SFits}
+use Rattle.std.proofs.Common.{arith, T, ◌≡◌, ℤ, ◌*◌, ◌*ℤ◌, ◌≤◌, pos, unsigned_abs, ap, sym, subst, mul-le-mul, ◌∙◌, to_z, of_z, to_z-of_z, Fits, SFits}
 use Rattle.std.specs.Int.{w128}
 use Rattle.std.specs.Int.Signed.{non_neg}
 use Rattle.std.proofs.Math.IntN.{pos-*ℤ-pos, negsuc-*ℤ-negsuc}
 use Rattle.std.proofs.lemmas.Int.{ints}
 use Rattle.fku_types.specs.Points.{square}
 use Rattle.strip_graph.proofs.EdgeLaws.{passed_side}
+use Rattle.plane_geom.proofs.Signed.{squared}
 use Rattle.strip_graph.proofs.areas.square.Goals as goal
-
-squared : (x : ℤ) → x *ℤ x ≡ pos (unsigned_abs x * unsigned_abs x)
-squared (pos m) = pos-*ℤ-pos m m
-squared (negsuc m) = negsuc-*ℤ-negsuc m m
 
 -- a square of at most that of 16 * 10 ^ 12 fits
 fits : (x : ℤ) → unsigned_abs x ≤ 16000000000000

@@ -1,4 +1,4 @@
-use Rattle.std.proofs.Common.{◌≡◌, ◌+◌, inr, refl, arith, drop, subst, length, [], map, None, rules}
+use Rattle.std.proofs.Common.{◌≡◌, inr, refl, arith, drop, subst, length, [], map, None, rules}
 use Rattle.fku_types.specs.declared.limits.TheConstants.{MAX_EDITS}
 use Rattle.text_io.specs.WordLists.{lines_of, first_number}
 use Rattle.section_core.specs.Parts.{Parts}

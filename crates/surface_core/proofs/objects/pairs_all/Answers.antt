@@ -4,8 +4,8 @@ use Rattle.fku_types.specs.declared.limits.TheConstants.{MAX_PAIRS}
 use Rattle.section_core.specs.Parts.{Parts}
 use Rattle.section_pairs.specs.SectionFaults.{ArePairs, OrNoMemory}
 use Rattle.surface_core.specs.Objects.{AreAllPairs, pair_lists, LieInGaps, numbered, IsFoundAmong, IsLateAmong}
-use Rattle.section_pairs.proofs.FoundCases.{ok_then}
 use Rattle.surface_core.proofs.ObjectFacts.{objects_are, few_pairs_in}
+use Rattle.fku_types.proofs.AnswerLaws.{ok_then}
 use Rattle.surface_core.proofs.objects.pairs_all.Goals as goal
 
 pub returns-clause-pairs : goal.returns-clause-pairs

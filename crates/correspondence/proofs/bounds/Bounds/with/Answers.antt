@@ -1,5 +1,6 @@
 use Rattle.std.proofs.Common.{rules}
-use Rattle.correspondence.proofs.LeastBounds.{least, greatest, below}
+use Rattle.correspondence.proofs.LeastBounds.{least, greatest}
+use Rattle.fku_types.proofs.TruthLaws.{int_le_through}
 use Rattle.correspondence.proofs.bounds.Bounds.with.Goals as goal
 
 pub returns-clause-added : goal.returns-clause-added
@@ -12,12 +13,12 @@ returns-clause-added c = record {
 
 pub returns-clause-kept : goal.returns-clause-kept
 returns-clause-kept c q w = record {
-  left = below _ _ _ (least c.args.self.min_x c.args.p.x c.min.result (search rules) (search rules)
+  left = int_le_through _ _ _ (least c.args.self.min_x c.args.p.x c.min.result (search rules) (search rules)
       c.min.ensures.value).1 w.left;
-  right = below _ _ _ w.right (greatest c.args.self.max_x c.args.p.x c.max.result (search rules) (search rules)
+  right = int_le_through _ _ _ w.right (greatest c.args.self.max_x c.args.p.x c.max.result (search rules) (search rules)
       c.max.ensures.value).1;
-  bottom = below _ _ _ (least c.args.self.min_y c.args.p.y c.min-2.result (search rules) (search rules)
+  bottom = int_le_through _ _ _ (least c.args.self.min_y c.args.p.y c.min-2.result (search rules) (search rules)
       c.min-2.ensures.value).1 w.bottom;
-  top = below _ _ _ w.top (greatest c.args.self.max_y c.args.p.y c.max-2.result (search rules) (search rules)
+  top = int_le_through _ _ _ w.top (greatest c.args.self.max_y c.args.p.y c.max-2.result (search rules) (search rules)
       c.max-2.ensures.value).1;
 }
