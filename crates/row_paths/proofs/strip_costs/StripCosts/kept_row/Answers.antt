@@ -1,4 +1,5 @@
-use Rattle.std.proofs.Common.{rules, arith, ◌≡◌, ℕ, ◌+◌, ◌*◌, ◌<◌, map, option_map, inl, inr, refl, ap, sym, subst, ◌∙◌}
+use Rattle.std.proofs.Common.{List, rules, arith, ◌≡◌, ℕ, ◌+◌, ◌*◌, ◌<◌, ◌≤◌, length, mul-le-mul_right, map, option_map, inl, inr, refl, ap, sym, subst, ◌∙◌}
+use Rattle.std.proofs.lemmas.List.{length-map}
 use Rattle.strip_graph.specs.declared.tilings.Step.{Step}
 use Rattle.strip_graph.specs.declared.tilings.Step.TheVariants.{V, H}
 use Rattle.strip_graph.specs.Strips.{arcs, rows, cols}
@@ -8,6 +9,65 @@ use Rattle.row_paths.specs.StripCosts.{largest, AreFirstCosts, AreRights, AreRig
 use Rattle.row_paths.proofs.StripCostLaws.{IsPart, row_part, not_both}
 use Rattle.row_paths.proofs.strip_costs.StripCosts.kept_row.Goals as goal
 use Rattle.row_paths.proofs.strip_costs.StripCosts.kept_row.Goals.{in-Some, in-None}
+
+-- a row of a table of m rows of n numbers ends within the table
+ends : {A : Type 0} (t r m w n : ℕ) (value : A → ℕ) (costs : List A) → t < r → r ≡ m → w ≡ n
+    → length (map value costs) ≡ m * n → t * w + w ≤ length costs
+ends t r m w n value costs lt e d count =
+    let more : t + 1 ≤ m = omega (arith, e) in
+    omega (arith, d, count, length-map costs value, ap (λ (k : ℕ). t * k) d, mul-le-mul_right n more)
+
+pub offset_bounds-rights-turned : goal.offset_bounds-rights-turned
+offset_bounds-rights-turned g c =
+    let p = c.self.inside.layout.now in
+    let all : AreRights (largest g.C.Sum.Amount.MOST p) p (map g.C.Cost.value c.in-Some.rights.now) =
+    subst (λ o. AreRightsOf (largest g.C.Sum.Amount.MOST p) p (option_map (λ v. map g.C.Cost.value v.now) o))
+    c.in-Some.is (c.self.invariant.kept c.requires.kept).by_h in
+    omega (
+      arith,
+      ends _ _ _ _ _ g.C.Cost.value c.in-Some.rights.now c.in_first_round-turned.ensures.within
+          c.rows-rows.ensures.value c.cols-width.ensures.value all.count,
+    )
+
+pub slice_bounds-rights-end : goal.slice_bounds-rights-end
+slice_bounds-rights-end g c =
+    let p = c.self.inside.layout.now in
+    let all : AreRights (largest g.C.Sum.Amount.MOST p) p (map g.C.Cost.value c.in-Some.rights.now) =
+    subst (λ o. AreRightsOf (largest g.C.Sum.Amount.MOST p) p (option_map (λ v. map g.C.Cost.value v.now) o))
+    c.in-Some.is (c.self.invariant.kept c.requires.kept).by_h in
+    omega (
+      arith,
+      ends _ _ _ _ _ g.C.Cost.value c.in-Some.rights.now c.in_first_round-turned.ensures.within
+          c.rows-rows.ensures.value c.cols-width.ensures.value all.count,
+    )
+
+pub offset_bounds-self-inside-above : goal.offset_bounds-self-inside-above
+offset_bounds-self-inside-above g c = omega (
+  arith,
+  ends _ _ _ _ _ g.C.Cost.value c.self.inside.downs.now c.row_before-above.ensures.within c.rows-rows.ensures.value
+      (ap (λ (k : ℕ). k + 1) c.cols-width.ensures.value) (c.self.invariant.kept c.requires.kept).by_v.count,
+)
+
+pub slice_bounds-rights-end-in-None : goal.slice_bounds-rights-end-in-None
+slice_bounds-rights-end-in-None g c = omega (
+  arith,
+  ends _ _ _ _ _ g.C.Cost.value c.self.inside.downs.now c.row_before-above.ensures.within c.rows-rows.ensures.value
+      (ap (λ (k : ℕ). k + 1) c.cols-width.ensures.value) (c.self.invariant.kept c.requires.kept).by_v.count,
+)
+
+pub offset_bounds-self-inside-at : goal.offset_bounds-self-inside-at
+offset_bounds-self-inside-at g c = omega (
+  arith,
+  ends _ _ _ _ _ g.C.Cost.value c.self.inside.downs.now c.in_first_round-turned.ensures.within c.rows-rows.ensures.value
+      (ap (λ (k : ℕ). k + 1) c.cols-width.ensures.value) (c.self.invariant.kept c.requires.kept).by_v.count,
+)
+
+pub slice_bounds-result-end : goal.slice_bounds-result-end
+slice_bounds-result-end g c = omega (
+  arith,
+  ends _ _ _ _ _ g.C.Cost.value c.self.inside.downs.now c.in_first_round-turned.ensures.within c.rows-rows.ensures.value
+      (ap (λ (k : ℕ). k + 1) c.cols-width.ensures.value) (c.self.invariant.kept c.requires.kept).by_v.count,
+)
 
 pub invariant_of-result : goal.invariant_of-result
 invariant_of-result g c =
